@@ -1,0 +1,4 @@
+pub mod Floor
+pub mod Ints
+pub mod Products
+pub mod Tests

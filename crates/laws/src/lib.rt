@@ -1,0 +1,1 @@
+// The arithmetic that the other crates' proofs cite: specs/ and proofs/ alone, no code.

@@ -1,0 +1,7 @@
+pub mod Cells
+pub mod Places
+pub mod Paint
+pub mod Limits
+pub mod Marks
+mod Refused
+pub mod Unique

@@ -1,0 +1,163 @@
+-- The limits, as the code meets them: a slice that fits, a coordinate on the moved plane.
+use Prim.Native.Nat.{ℕ, _+_, _-_, _*_, _≤_, _<_}
+use mathlib.Core.Path.{_≡_, refl, sym, subst, ap, _∙_}
+use mathlib.Core.List.{List}
+use mathlib.Core.Bool.{Bool, true, false, cond, _&&_, not}
+use native.Mathlib.Omega.{arith}
+use borrow.Author.Tests.{eqb-true, eqb-false}
+use lib.ListN.{length}
+use lib.Dec.{T, leb, eqb, leb→le, eqb→eq}
+use lib.IntN.{ℤ, pos, negsuc, negℤ, natAbs, subℕ, _+ℤ_, _-ℤ_}
+use lib.Signed.{leZ}
+use mir.Syntax.{w32}
+use mir.Val.{SFits, toZ, ofZ}
+use mir.Facts.{toZ-ofZ}
+use Rattle.laws.specs.Parts.{up, dn}
+use Rattle.laws.proofs.Ints.{le-parts, one-zero, parts, to-≡ℤ, up-sub, dn-sub, is-leZ, no-leZ}
+use Rattle.laws.proofs.Tests.{and-l, and-r, is-true, from-true}
+use Rattle.sheet.specs.Sheet.{size, bytes, fits, coordinate, inLimits, cellOf}
+use Rattle.sheet.specs.Inner.{moved, unmoved, movedCell, unmovedCell, lowered, Moved, Sheet}
+use Rattle.sheet.specs.declared.Cell.{Cell}
+use Rattle.sheet.specs.declared.Shape.{Shape}
+use Rattle.sheet.specs.declared.Spot.{Spot}
+
+-- a slice that fits is a sheet
+pub fits-sheet : (k : Shape) (s : List ℕ) → fits k (length s) ≡ true → Sheet k s
+unfolding fits
+fits-sheet k s e =
+    let t : T (size (k .width) && size (k .height) && eqb (length s) (bytes k)) = from-true (fits k (length s)) e in
+    record {
+      area = search (eqb→eq, and-l, and-r);
+      broad = search (leb→le, and-l, and-r);
+      wide = search (leb→le, and-l, and-r);
+      deep = search (leb→le, and-l, and-r);
+      high = search (leb→le, and-l, and-r);
+    }
+
+-- a coordinate within the limits, by its parts
+pub limit-low : (z : ℤ) → coordinate z ≡ true → dn z ≤ 16384
+unfolding coordinate
+limit-low z e =
+    let t : T (leZ (negsuc 16383) z && leZ z (pos 16383)) = from-true (coordinate z) e in
+    omega (arith, one-zero z, le-parts (negsuc 16383) z (and-l (leZ (negsuc 16383) z) (leZ z (pos 16383)) t))
+
+pub limit-high : (z : ℤ) → coordinate z ≡ true → up z ≤ 16383
+unfolding coordinate
+limit-high z e =
+    let t : T (leZ (negsuc 16383) z && leZ z (pos 16383)) = from-true (coordinate z) e in
+    omega (arith, one-zero z, le-parts z (pos 16383) (and-r (leZ (negsuc 16383) z) (leZ z (pos 16383)) t))
+
+-- and from them
+pub limit-in : (z : ℤ) → dn z ≤ 16384 → up z ≤ 16383 → coordinate z ≡ true
+unfolding coordinate
+limit-in z l h = simp (is-leZ (negsuc 16383) z (omega arith), is-leZ z (pos 16383) (omega arith))
+
+pub limit-below : (z : ℤ) → 16384 < dn z → coordinate z ≡ false
+unfolding coordinate
+limit-below z l = simp (no-leZ (negsuc 16383) z (omega (arith, one-zero z)))
+
+pub limit-above : (z : ℤ) → 16383 < up z → coordinate z ≡ false
+unfolding coordinate
+limit-above z l = simp (is-leZ (negsuc 16383) z (omega (arith, one-zero z)), no-leZ z (pos 16383) (omega (arith, one-zero z)))
+
+-- what the machine reads back from the bits of a coordinate
+pub moved-back : (z : ℤ) (m : ℕ) → SFits w32 z → m ≡ moved (toZ w32 (ofZ w32 z)) → m ≡ moved z
+moved-back z m f e = e ∙ ap moved (toZ-ofZ f)
+
+-- what a moved coordinate is
+pub moved-is : (z : ℤ) → coordinate z ≡ true → moved z ≡ up z + 65536 - dn z
+unfolding moved
+moved-is z e = simp e (simp parts (omega (arith, limit-low z e)))
+
+pub moved-out : (z : ℤ) → coordinate z ≡ false → moved z ≡ 0
+unfolding moved
+moved-out z e = simp e
+
+-- a coordinate that was lifted: within the limits, and what it stands for
+pub record Lifted (z : ℤ) (m : ℕ) : Type 0 where
+  pub ok : coordinate z ≡ true
+  pub inside : Moved m
+  pub stands : unmoved m ≡ z
+
+pub lift-in : (z : ℤ) (m : ℕ) → coordinate z ≡ true → m ≡ moved z → Lifted z m
+lift-in z m p e =
+    let l = limit-low z p in
+    let h = limit-high z p in
+    let q : m ≡ up z + 65536 - dn z = e ∙ moved-is z p in
+    record {
+      ok = p;
+      inside = record { least = omega arith; most = omega (arith, one-zero z) };
+      stands = to-≡ℤ (unmoved m) z (simp parts (omega (arith, one-zero z)));
+    }
+
+pub lifted : (z : ℤ) (m : ℕ) → m ≡ moved z → (m ≡ 0 → ⊥) → Lifted z m
+lifted z m e f = by (coordinate z) refl
+  where
+    by : (t : Bool) → coordinate z ≡ t → Lifted z m
+    by true p = lift-in z m p e
+    by false p = absurd (f (e ∙ moved-out z p))
+
+pub not-lifted : (z : ℤ) (m : ℕ) → m ≡ moved z → m ≡ 0 → coordinate z ≡ false
+not-lifted z m e f = by (coordinate z) refl
+  where
+    by : (t : Bool) → coordinate z ≡ t → t ≡ false
+    by true p = absurd (omega (arith, limit-low z p, moved-is z p))
+    by false p = refl
+
+-- whether a coordinate was lifted
+pub is-lifted : (z : ℤ) (m : ℕ) → m ≡ moved z → not (eqb m 0) ≡ coordinate z
+is-lifted z m e = by (eqb m 0) refl
+  where
+    by : (t : Bool) → eqb m 0 ≡ t → not t ≡ coordinate z
+    by true p = sym (not-lifted z m e (eqb-true m 0 p))
+    by false p = sym (lifted z m e (eqb-false m 0 p) .ok)
+
+-- a cell within the limits, by its coordinates
+pub limits-x : (c : Cell) → inLimits c ≡ true → coordinate (c .x) ≡ true
+unfolding inLimits
+limits-x c e = is-true (coordinate (c .x)) (and-l (coordinate (c .x)) (coordinate (c .y)) (from-true (inLimits c) e))
+
+pub limits-y : (c : Cell) → inLimits c ≡ true → coordinate (c .y) ≡ true
+unfolding inLimits
+limits-y c e = is-true (coordinate (c .y)) (and-r (coordinate (c .x)) (coordinate (c .y)) (from-true (inLimits c) e))
+
+-- a cell within the limits, lifted
+pub record LiftedCell (c : Cell) (p : Spot) : Type 0 where
+  pub inside-x : Moved (p .x)
+  pub inside-y : Moved (p .y)
+  pub stands : unmovedCell p ≡ c
+
+pub lifted-cell : (c : Cell) (p : Spot) → inLimits c ≡ true → p ≡ movedCell c → LiftedCell c p
+lifted-cell c p e q =
+    let a = lift-in (c .x) (p .x) (limits-x c e) (ap (λ (p : Spot). p .x) q) in
+    let b = lift-in (c .y) (p .y) (limits-y c e) (ap (λ (p : Spot). p .y) q) in
+    record { inside-x = a .inside; inside-y = b .inside; stands = λ i. record { x = a .stands i; y = b .stands i } }
+
+-- a spot at a column and a row of the sheet
+pub unmoved-cell : (p : Spot) → 65536 ≤ p .x → 65536 ≤ p .y → unmovedCell p ≡ cellOf (p .x - 65536) (p .y - 65536)
+unmoved-cell p a b =
+    let u : unmoved (p .x) ≡ pos (p .x - 65536) = to-≡ℤ (unmoved (p .x)) (pos (p .x - 65536)) (simp parts (omega arith)) in
+    let v : unmoved (p .y) ≡ pos (p .y - 65536) = to-≡ℤ (unmoved (p .y)) (pos (p .y - 65536)) (simp parts (omega arith)) in
+    λ i. record { x = u i; y = v i }
+
+-- a number that is lowered, and one that is not
+pub lowered-is : (m : ℕ) → 49152 ≤ m → m ≤ 81919 → lowered m ≡ unmoved m
+unfolding lowered
+lowered-is m l h = let e : coordinate (unmoved m) ≡ true = limit-in (unmoved m) (simp parts (omega arith)) (simp parts (omega arith)) in simp e
+
+pub lowered-below : (m : ℕ) → m < 49152 → pos 0 ≡ lowered m
+unfolding lowered
+lowered-below m l = let e : coordinate (unmoved m) ≡ false = limit-below (unmoved m) (simp parts (omega arith)) in simp e
+
+pub lowered-above : (m : ℕ) → 81919 < m → pos 0 ≡ lowered m
+unfolding lowered
+lowered-above m l = let e : coordinate (unmoved m) ≡ false = limit-above (unmoved m) (simp parts (omega arith)) in simp e
+
+-- what a lifted coordinate is lowered to
+pub lowered-moved : (z : ℤ) → coordinate z ≡ true → lowered (moved z) ≡ z
+lowered-moved z e =
+    let l = limit-low z e in
+    let h = limit-high z e in
+    let f = moved-is z e in
+    let k = lifted z (moved z) refl (λ p. omega arith) in
+    lowered-is (moved z) (k .inside .least) (k .inside .most) ∙ k .stands

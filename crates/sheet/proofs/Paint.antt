@@ -1,0 +1,131 @@
+-- The laws of painting: what loops carry, and what a reader may conclude.
+use Prim.Native.Nat.{ℕ, _*_, _<_}
+use mathlib.Core.Path.{_≡_, refl, sym, subst, ap, _∙_}
+use mathlib.Core.List.{List}
+use mathlib.Core.Bool.{Bool, true, false, cond, _&&_, _||_}
+use native.Mathlib.Omega.{arith}
+use lib.ListN.{length, getD, set}
+use lib.Dec.{T, eqb, eqb→eq}
+use Rattle.laws.proofs.Tests.{and-l, and-r, and-i, same, is-true, is-false, from-true, eqb-of}
+use Rattle.sheet.specs.Sheet.{onSheet, place, cellOf, cellAt, held, byPlace, paint, isCell}
+use Rattle.sheet.specs.declared.Cell.{Cell}
+use Rattle.sheet.specs.declared.Shape.{Shape}
+use Rattle.sheet.proofs.Cells.{OnSheet, on-sheet, sheet-cell, in-sheet, is-cell→, is-cell-refl, cell-at-place, place-cell-at}
+use Rattle.sheet.proofs.Places.{length-by, getD-by, by-as, by-none, by-then, by-one}
+
+-- a byte's cell is on the sheet and passes a test, or is no cell of the figure
+either : (k : Shape) (n : ℕ) (f g : Cell → Bool) → (onSheet k (cellAt k n) ≡ true → f (cellAt k n) ≡ g (cellAt k n)) → held k f n ≡ held k g n
+unfolding held
+either k n f g h = by (onSheet k (cellAt k n)) refl
+  where
+    by : (t : Bool) → onSheet k (cellAt k n) ≡ t → (t && f (cellAt k n)) ≡ (t && g (cellAt k n))
+    by true e = h e
+    by false e = refl
+
+-- two inks of one place
+twice : (ink : ℕ) (a b : Bool) (v : ℕ) → cond b ink (cond a ink v) ≡ cond (a || b) ink v
+twice ink true true v = refl
+twice ink true false v = refl
+twice ink false true v = refl
+twice ink false false v = refl
+
+spread : (t a b : Bool) → ((t && a) || (t && b)) ≡ (t && (a || b))
+spread true a b = refl
+spread false a b = refl
+
+none : (t : Bool) → (t && false) ≡ false
+none true = refl
+none false = refl
+
+-- the byte of one cell
+module _ (k : Shape) (x y : ℕ) (a : x < k .width) (b : y < k .height) (n : ℕ) where
+  at-cell : T (held k (isCell (cellOf x y)) n) → T (eqb n (place k (cellOf x y)))
+  unfolding held
+  at-cell t =
+      let e = is-cell→ (cellOf x y) (cellAt k n) (and-r (onSheet k (cellAt k n)) (isCell (cellOf x y) (cellAt k n)) t) in
+      eqb-of n (place k (cellOf x y)) (sym (place-cell-at k n) ∙ ap (place k) e)
+
+  cell-held : T (eqb n (place k (cellOf x y))) → T (held k (isCell (cellOf x y)) n)
+  unfolding held
+  cell-held t =
+      let e : cellOf x y ≡ cellAt k n = sym (ap (cellAt k) (eqb→eq n (place k (cellOf x y)) t) ∙ cell-at-place k x y a) in
+      let on = from-true (onSheet k (cellOf x y)) (on-sheet k x y a b) in
+      let own : T (onSheet k (cellOf x y) && isCell (cellOf x y) (cellOf x y)) = and-i (onSheet k (cellOf x y)) (isCell (cellOf x y) (cellOf x y)) on (is-cell-refl (cellOf x y)) in
+      subst (λ (c : Cell). T (onSheet k c && isCell (cellOf x y) c)) e own
+
+  pub held-one : held k (isCell (cellOf x y)) n ≡ eqb n (place k (cellOf x y))
+  held-one = same (held k (isCell (cellOf x y)) n) (eqb n (place k (cellOf x y))) at-cell cell-held
+
+module _ (k : Shape) (ink : ℕ) where
+  -- figures that agree on the sheet paint alike
+  pub paint-as : (f g : Cell → Bool) (s : List ℕ) → ((x y : ℕ) → x < k .width → y < k .height → f (cellOf x y) ≡ g (cellOf x y))
+      → paint k ink f s ≡ paint k ink g s
+  unfolding paint cellAt
+  paint-as f g s h = by-as _ _ s (λ n v l. ap (λ (t : Bool). cond t ink v) (either k n f g (λ e. let b = in-sheet k _ _ e in h _ _ (b .0) (b .1))))
+
+  -- a figure with no cell on the sheet changes nothing
+  pub paint-none : (f : Cell → Bool) (s : List ℕ) → ((x y : ℕ) → x < k .width → y < k .height → f (cellOf x y) ≡ false) → paint k ink f s ≡ s
+  unfolding paint held
+  paint-none f s h = paint-as f (λ c. false) s h ∙ by-as _ (λ (n v : ℕ). v) s (λ n v l. rw none) ∙ by-none s
+
+  -- one figure after another, in one ink, is both
+  pub paint-then : (f g : Cell → Bool) (s : List ℕ) → paint k ink g (paint k ink f s) ≡ paint k ink (λ (c : Cell). f c || g c) s
+  unfolding paint held
+  paint-then f g s =
+      by-then _ _ s
+      ∙ by-as _ _ s (λ n v l.
+      twice ink (held k f n) (held k g n) v
+      ∙ ap (λ (t : Bool). cond t ink v) (spread (onSheet k (cellAt k n)) (f (cellAt k n)) (g (cellAt k n))))
+
+  -- one cell of the sheet is one byte
+  pub paint-one : (x y : ℕ) (s : List ℕ) → x < k .width → y < k .height → paint k ink (isCell (cellOf x y)) s ≡ set s (place k (cellOf x y)) ink
+  unfolding paint
+  paint-one x y s a b =
+      by-as _ (λ (n v : ℕ). cond (eqb n (place k (cellOf x y))) ink v) s (λ n v l. ap (λ (t : Bool). cond t ink v) (held-one k x y a b n))
+      ∙ by-one s (place k (cellOf x y)) ink
+
+  -- the length is kept
+  pub paint-length : (f : Cell → Bool) (s : List ℕ) → length (paint k ink f s) ≡ length s
+  unfolding paint
+  paint-length f s = length-by _ s
+
+  -- each byte of the sheet: the ink where its cell is one of the figure's, and else as before
+  pub paint-byte : (f : Cell → Bool) (s : List ℕ) (n : ℕ) → n < length s → getD (paint k ink f s) n 0 ≡ cond (held k f n) ink (getD s n 0)
+  unfolding paint
+  paint-byte f s n l = getD-by _ s n l
+
+  -- each cell of the sheet, by its place
+  pub paint-cell : (f : Cell → Bool) (s : List ℕ) (c : Cell) → onSheet k c ≡ true → place k c < length s
+      → getD (paint k ink f s) (place k c) 0 ≡ cond (f c) ink (getD s (place k c) 0)
+  unfolding held
+  paint-cell f s c e l =
+      let o = sheet-cell k c e in
+      let at : cellAt k (place k c) ≡ c = rw (o .is-cell) (cell-at-place k (o .column) (o .row) (o .in-width)) in
+      paint-byte f s (place k c) l
+      ∙ ap (λ (d : Cell). cond (onSheet k d && f d) ink (getD s (place k c) 0)) at
+      ∙ ap (λ (t : Bool). cond (t && f c) ink (getD s (place k c) 0)) e
+
+  -- painting twice is painting once
+  pub paint-twice : (f : Cell → Bool) (s : List ℕ) → paint k ink f (paint k ink f s) ≡ paint k ink f s
+  paint-twice f s = paint-then f f s ∙ paint-as _ f s (λ x y a b. same _ _ (λ t. either-one (f (cellOf x y)) t) (λ t. one-either (f (cellOf x y)) t))
+    where
+      either-one : (t : Bool) → T (t || t) → T t
+      either-one true p = p
+      either-one false p = p
+
+      one-either : (t : Bool) → T t → T (t || t)
+      one-either true p = p
+      one-either false p = p
+
+-- later over earlier: a figure painted over one that it covers leaves nothing of it
+pub paint-over : (k : Shape) (ink over : ℕ) (f g : Cell → Bool) (s : List ℕ) → ((c : Cell) → T (f c) → T (g c))
+    → paint k over g (paint k ink f s) ≡ paint k over g s
+unfolding paint held
+paint-over k ink over f g s h =
+    by-then _ _ s ∙ by-as _ _ s (λ n v l. by (onSheet k (cellAt k n)) (f (cellAt k n)) (g (cellAt k n)) v (h (cellAt k n)))
+  where
+    by : (t a b : Bool) (v : ℕ) → (T a → T b) → cond (t && b) over (cond (t && a) ink v) ≡ cond (t && b) over v
+    by false a b v i = refl
+    by true a true v i = refl
+    by true false false v i = refl
+    by true true false v i = absurd (i tt)

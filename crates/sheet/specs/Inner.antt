@@ -1,0 +1,44 @@
+-- The moved plane, on which the code works: a coordinate z is held as z + 65,536, so that none is below 0, nor one of them less a radius.
+use Prim.Native.Nat.{ℕ, _+_, _*_, _≤_}
+use mathlib.Core.Path.{_≡_}
+use mathlib.Core.List.{List}
+use mathlib.Core.Bool.{Bool, cond, _&&_}
+use lib.ListN.{length}
+use lib.Dec.{leb}
+use lib.IntN.{ℤ, pos, natAbs, _+ℤ_, _-ℤ_}
+use Rattle.sheet.specs.Sheet.{coordinate, bytes}
+use Rattle.sheet.specs.declared.Cell.{Cell}
+use Rattle.sheet.specs.declared.Shape.{Shape}
+use Rattle.sheet.specs.declared.Spot.{Spot}
+
+-- a coordinate within the limits, moved; 0 for any other number
+unfoldable pub moved : ℤ → ℕ
+moved z = cond (coordinate z) (natAbs (z +ℤ pos 65536)) 0
+
+-- the number that m stands for
+abbrev pub unmoved : ℕ → ℤ
+unmoved m = pos m -ℤ pos 65536
+
+-- the same of cells
+abbrev pub movedCell : Cell → Spot
+movedCell c = record { x = moved (c .x); y = moved (c .y) }
+
+abbrev pub unmovedCell : Spot → Cell
+unmovedCell p = record { x = unmoved (p .x); y = unmoved (p .y) }
+
+-- the coordinate that m stands for, where that is within the limits; 0 for any other m
+unfoldable pub lowered : ℕ → ℤ
+lowered m = cond (coordinate (unmoved m)) (unmoved m) (pos 0)
+
+-- what inner functions are promised: a coordinate within the limits, moved
+pub record Moved (m : ℕ) : Type 0 where
+  pub least : 49152 ≤ m
+  pub most : m ≤ 81919
+
+-- and a slice that is a sheet of the shape
+pub record Sheet (k : Shape) (s : List ℕ) : Type 0 where
+  pub area : length s ≡ bytes k
+  pub broad : 1 ≤ k .width
+  pub wide : k .width ≤ 4096
+  pub deep : 1 ≤ k .height
+  pub high : k .height ≤ 4096

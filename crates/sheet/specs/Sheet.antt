@@ -1,0 +1,69 @@
+-- Document 01, "The sheet".
+use Prim.Native.Nat.{ℕ, zero, suc, _+_, _*_, _/_, _%_}
+use mathlib.Core.List.{List, [], _∷_}
+use mathlib.Core.Bool.{Bool, cond, _&&_}
+use lib.Dec.{leb, eqb}
+use lib.IntN.{ℤ, pos, negℤ, natAbs}
+use lib.Signed.{leZ, ltZ}
+use Rattle.laws.specs.Parts.{eqZ}
+use Rattle.sheet.specs.declared.Cell.{Cell}
+use Rattle.sheet.specs.declared.Shape.{Shape}
+
+-- Width and height are each 1 to 4,096.
+abbrev pub size : ℕ → Bool
+size n = leb 1 n && leb n 4096
+
+-- The slice has exactly width × height bytes.
+abbrev pub bytes : Shape → ℕ
+bytes k = k .width * k .height
+
+-- a slice of n bytes is a sheet of this shape
+unfoldable pub fits : Shape → ℕ → Bool
+fits k n = size (k .width) && size (k .height) && eqb n (bytes k)
+
+-- Cell (x, y) with 0 ≤ x < width and 0 ≤ y < height ..
+unfoldable pub onSheet : Shape → Cell → Bool
+onSheet k c = leZ (pos 0) (c .x) && ltZ (c .x) (pos (k .width)) && leZ (pos 0) (c .y) && ltZ (c .y) (pos (k .height))
+
+-- .. is byte y × width + x.
+unfoldable pub place : Shape → Cell → ℕ
+place k c = natAbs (c .y) * k .width + natAbs (c .x)
+
+-- the cell of column x and row y; the cell that byte n is
+abbrev pub cellOf : ℕ → ℕ → Cell
+cellOf x y = record { x = pos x; y = pos y }
+
+unfoldable pub cellAt : Shape → ℕ → Cell
+cellAt k n = cellOf (n % k .width) (n / k .width)
+
+-- whether byte n is one of the figure's cells that lie on the sheet
+unfoldable pub held : Shape → (Cell → Bool) → ℕ → Bool
+held k figure n = onSheet k (cellAt k n) && figure (cellAt k n)
+
+-- each byte of a list, changed by its place and its value
+unfoldable pub byPlace : (ℕ → ℕ → ℕ) → List ℕ → List ℕ
+byPlace f [] = []
+byPlace f (v ∷ s) = f 0 v ∷ byPlace (λ (n : ℕ). f (suc n)) s
+
+-- Drawing a figure with an ink sets each of its cells that lies on the sheet to that ink. All other bytes keep their values.
+unfoldable pub paint : Shape → ℕ → (Cell → Bool) → List ℕ → List ℕ
+paint k ink figure s = byPlace (λ (n v : ℕ). cond (held k figure n) ink v) s
+
+-- how many of the numbers below n pass a test; the number of a figure's cells on the sheet
+unfoldable pub count : ℕ → (ℕ → Bool) → ℕ
+count zero test = 0
+count (suc n) test = count n test + cond (test n) 1 0
+
+unfoldable pub cellsOn : Shape → (Cell → Bool) → ℕ
+cellsOn k figure = count (bytes k) (held k figure)
+
+-- Coordinates are −16,384 to 16,383.
+unfoldable pub coordinate : ℤ → Bool
+coordinate z = leZ (negℤ (pos 16384)) z && leZ z (pos 16383)
+
+unfoldable pub inLimits : Cell → Bool
+inLimits c = coordinate (c .x) && coordinate (c .y)
+
+-- the figure of one cell
+unfoldable pub isCell : Cell → Cell → Bool
+isCell c d = eqZ (d .x) (c .x) && eqZ (d .y) (c .y)

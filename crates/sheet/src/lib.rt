@@ -1,0 +1,194 @@
+// The sheet, the table of refusals, and marking: what every figure stands on.
+ghost use mathlib.Core.Path.{_≡_};
+ghost use lib.ListN.{length};
+ghost use Rattle.sheet.specs.Sheet.{fits, inLimits, isCell, paint};
+ghost use Rattle.sheet.specs.Reply.{number, settled};
+ghost use Rattle.sheet.specs.Drawn.{toldDrawn};
+ghost use Rattle.sheet.specs.Mark.{markAnswer};
+ghost use Rattle.sheet.specs.Inner.{moved, lowered, movedCell, unmovedCell};
+
+// A cell of the unlimited grid.
+pub struct Cell {
+    pub x: i32,
+    pub y: i32,
+}
+
+// A cell of the moved plane, on which the code works.
+pub struct Spot {
+    pub x: u32,
+    pub y: u32,
+}
+
+// The size of a sheet.
+pub struct Shape {
+    pub width: u32,
+    pub height: u32,
+}
+
+// Why an input is refused: one case for each number of the table.
+pub enum Refusal {
+    // 1: a sheet size is outside its limits, or the slice length differs from width × height.
+    Size,
+    // 2: a coordinate, or a joined point of a curve, is outside its limits.
+    Coordinate,
+    // 3: a radius or semi-axis is outside its limits.
+    Radius,
+    // 4: s is above 6.
+    Pieces,
+    // 5: either lent list has fewer places than the line has cells.
+    Room,
+    // 6: a survey's origin is not finite, or its cell size is not finite or not above zero.
+    Survey,
+    // 7: a position or length in metres has no cell within the limits.
+    NoCell,
+    // 8: bytes are left, but fewer than a record needs.
+    Short,
+    // 9: unknown record kind.
+    Kind,
+    // 10: record length under 2, or not the length of its kind.
+    Length,
+}
+
+impl Refusal {
+    // The refusal's number in the table.
+    pub fn number(self) -> u32
+        ensures { λ r. ⌜ r ≡ number self ⌝ }
+    {
+        match self {
+            Refusal::Size => 1,
+            Refusal::Coordinate => 2,
+            Refusal::Radius => 3,
+            Refusal::Pieces => 4,
+            Refusal::Room => 5,
+            Refusal::Survey => 6,
+            Refusal::NoCell => 7,
+            Refusal::Short => 8,
+            Refusal::Kind => 9,
+            Refusal::Length => 10,
+        }
+    }
+}
+
+// The reply of a drawing that tells nothing but that it is done.
+pub enum Drawn {
+    Done,
+    Refused(Refusal),
+}
+
+// The reply of a drawing or a listing that tells its number of cells.
+pub enum Counted {
+    Done(u32),
+    Refused(Refusal),
+}
+
+// Whether a slice of this many bytes is a sheet of the shape.
+pub fn fits(shape: Shape, bytes: usize) -> bool
+    ensures { λ r. ⌜ r ≡ fits shape bytes ⌝ }
+{
+    let width = shape.width;
+    let height = shape.height;
+    if width < 1 {
+        return false;
+    }
+    if 4096 < width {
+        return false;
+    }
+    if height < 1 {
+        return false;
+    }
+    if 4096 < height {
+        return false;
+    }
+    bytes == width as usize * height as usize
+}
+
+// A coordinate, lifted onto the moved plane; 0 for one outside the limits.
+pub fn lift(z: i32) -> u32
+    ensures { λ r. ⌜ r ≡ moved z ⌝ }
+{
+    if z < -16384 {
+        return 0;
+    }
+    if 16383 < z {
+        return 0;
+    }
+    (z + 65536) as u32
+}
+
+// And back; 0 for a number that no coordinate is lifted to.
+pub fn lower(m: u32) -> i32
+    ensures { λ r. ⌜ r ≡ lowered m ⌝ }
+{
+    if m < 49152 {
+        return 0;
+    }
+    if 81919 < m {
+        return 0;
+    }
+    m as i32 - 65536
+}
+
+// A cell, lifted.
+pub fn lift_cell(cell: Cell) -> Spot
+    ensures { λ r. ⌜ r ≡ movedCell cell ⌝ }
+{
+    Spot {
+        x: lift(cell.x),
+        y: lift(cell.y),
+    }
+}
+
+// Whether both coordinates are within the limits.
+pub fn in_limits(cell: Cell) -> bool
+    ensures { λ r. ⌜ r ≡ inLimits cell ⌝ }
+{
+    let spot = lift_cell(cell);
+    if spot.x == 0 {
+        return false;
+    }
+    spot.y != 0
+}
+
+// Sets the cell at the spot to the ink where it is on the sheet; any other is skipped.
+pub fn ink_at(sheet: &mut [u8], shape: Shape, ink: u8, spot: Spot)
+    ensures { λ r. ⌜ now (sheet .exit) ≡ paint shape ink (isCell (unmovedCell spot)) (now (sheet .entry)) ⌝ }
+{
+    let x = spot.x;
+    let y = spot.y;
+    let width = shape.width;
+    let height = shape.height;
+    if x < 65536 {
+        return;
+    }
+    if y < 65536 {
+        return;
+    }
+    let column = x - 65536;
+    let row = y - 65536;
+    if width <= column {
+        return;
+    }
+    if height <= row {
+        return;
+    }
+    let at = row as usize * width as usize + column as usize;
+    if sheet.len() <= at {
+        return;
+    }
+    sheet[at] = ink;
+}
+
+// Sets one cell to the ink: the smallest drawing.
+pub fn mark(sheet: &mut [u8], shape: Shape, ink: u8, cell: Cell) -> Drawn
+    ensures { λ r. ⌜ toldDrawn r ≡ markAnswer shape (length (now (sheet .entry))) cell ⌝ }
+    ensures { λ r. ⌜ now (sheet .exit) ≡ settled (markAnswer shape (length (now (sheet .entry))) cell) (paint shape ink (isCell cell) (now (sheet .entry))) (now (sheet .entry)) ⌝ }
+{
+    if !fits(shape, sheet.len()) {
+        return Drawn::Refused(Refusal::Size);
+    }
+    if !in_limits(cell) {
+        return Drawn::Refused(Refusal::Coordinate);
+    }
+    ink_at(sheet, shape, ink, lift_cell(cell));
+    Drawn::Done
+}
