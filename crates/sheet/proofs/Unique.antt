@@ -5,6 +5,7 @@ use mathlib.Core.List.{List, [], _∷_}
 use mathlib.Core.Bool.{Bool, true, false, cond}
 use lib.ListN.{getD}
 use lib.Dec.{eqb}
+use lib.IntN.{pos, natAbs}
 use Rattle.sheet.specs.Reply.{Answer, number}
 use Rattle.sheet.specs.Drawn.{toldDrawn}
 use Rattle.sheet.specs.Counted.{toldCounted}
@@ -68,7 +69,7 @@ drawn-of drawn.Done = refl
 drawn-of (drawn.Refused r) = simp (number-not-0 r, refusal-number r)
 
 countedOf : Answer → Counted
-countedOf a = cond (eqb (a .number) 0) (counted.Done (getD (a .values) 0 0)) (counted.Refused (refusal (a .number)))
+countedOf a = cond (eqb (a .number) 0) (counted.Done (natAbs (getD (a .values) 0 (pos 0)))) (counted.Refused (refusal (a .number)))
 
 counted-of : (r : Counted) → countedOf (toldCounted r) ≡ r
 unfolding countedOf

@@ -3,6 +3,7 @@ use Prim.Native.Nat.{ℕ}
 use mathlib.Core.List.{List, []}
 use mathlib.Core.Bool.{Bool, cond}
 use lib.Dec.{eqb}
+use lib.IntN.{ℤ}
 use Rattle.sheet.specs.declared.Refusal.{Refusal}
 use Rattle.sheet.specs.declared.Refusal.the-variants.{Size, Coordinate, Radius, Pieces, Room, Survey, NoCell, Short, Kind, Length}
 
@@ -22,10 +23,10 @@ number Length = 10
 -- the paper's answer: a number of the table, and the values that go with it
 pub record Answer : Type 0 where
   pub number : ℕ
-  pub values : List ℕ
+  pub values : List ℤ
 
 -- 0 with its values; a refusal's number alone
-abbrev pub done : List ℕ → Answer
+abbrev pub done : List ℤ → Answer
 done values = record { number = 0; values = values }
 
 abbrev pub refuse : Refusal → Answer
