@@ -1,10 +1,11 @@
 -- Document 01, "The sheet".
-use Prim.Native.Nat.{ℕ, zero, suc, _+_, _*_, _/_, _%_}
+use Prim.Native.Nat.{ℕ, suc, _+_, _*_, _/_, _%_}
 use mathlib.Core.List.{List, [], _∷_}
 use mathlib.Core.Bool.{Bool, cond, _&&_}
 use lib.Dec.{leb, eqb}
 use lib.IntN.{ℤ, pos, negℤ, natAbs}
 use lib.Signed.{leZ, ltZ}
+use Rattle.laws.specs.Below.{count}
 use Rattle.laws.specs.Parts.{eqZ}
 use Rattle.sheet.specs.declared.Cell.{Cell}
 use Rattle.sheet.specs.declared.Shape.{Shape}
@@ -49,11 +50,7 @@ byPlace f (v ∷ s) = f 0 v ∷ byPlace (λ (n : ℕ). f (suc n)) s
 unfoldable pub paint : Shape → ℕ → (Cell → Bool) → List ℕ → List ℕ
 paint k ink figure s = byPlace (λ (n v : ℕ). cond (held k figure n) ink v) s
 
--- how many of the numbers below n pass a test; the number of a figure's cells on the sheet
-unfoldable pub count : ℕ → (ℕ → Bool) → ℕ
-count zero test = 0
-count (suc n) test = count n test + cond (test n) 1 0
-
+-- the number of a figure's cells on the sheet
 unfoldable pub cellsOn : Shape → (Cell → Bool) → ℕ
 cellsOn k figure = count (bytes k) (held k figure)
 

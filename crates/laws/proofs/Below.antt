@@ -1,0 +1,78 @@
+-- The laws of `any` and `count`.
+use Prim.Native.Nat.{ℕ, zero, suc, _+_, _<_}
+use mathlib.Core.Path.{_≡_, refl, subst, ap, ap₂, _∙_}
+use mathlib.Core.Logic.{⊎-elim}
+use mathlib.Core.Bool.{Bool, true, false, cond, _||_, or-false}
+use native.Mathlib.Omega.{arith}
+use native.Mathlib.Numerals.{add-one}
+use borrow.Author.Tests.{eqb-true, eqb-false, ne-eqb}
+use lib.Dec.{T, eqb}
+use Rattle.laws.specs.Below.{any, count}
+use Rattle.laws.proofs.Tests.{or-l, or-r, or-e, is-false}
+
+-- one number more
+pub any-more : (n : ℕ) (test : ℕ → Bool) → any (n + 1) test ≡ (any n test || test n)
+unfolding any
+any-more n test = rw add-one
+
+-- tests that agree below n
+pub any-as : (n : ℕ) (f g : ℕ → Bool) → ((i : ℕ) → i < n → f i ≡ g i) → any n f ≡ any n g
+unfolding any
+any-as zero f g h = refl
+any-as (suc n) f g h = ap₂ _||_ (any-as n f g (λ i l. h i (omega arith))) (h n (omega arith))
+
+pub count-as : (n : ℕ) (f g : ℕ → Bool) → ((i : ℕ) → i < n → f i ≡ g i) → count n f ≡ count n g
+unfolding count
+count-as zero f g h = refl
+count-as (suc n) f g h = ap₂ _+_ (count-as n f g (λ i l. h i (omega arith))) (ap (λ (t : Bool). cond t 1 0) (h n (omega arith)))
+
+-- one passes
+pub any-at : (n : ℕ) (test : ℕ → Bool) (i : ℕ) → i < n → T (test i) → T (any n test)
+unfolding any
+any-at zero test i l t = absurd (omega arith)
+any-at (suc n) test i l t = by (λ m. any-at n test i m t) (eqb i n) refl
+  where
+    by : (i < n → T (any n test)) → (b : Bool) → eqb i n ≡ b → T (any n test || test n)
+    by f true e = or-r (any n test) (test n) (subst (λ (j : ℕ). T (test j)) (eqb-true i n e) t)
+    by f false e = or-l (any n test) (test n) (f (omega (arith, eqb-false i n e)))
+
+-- the one that passes
+pub record Found (n : ℕ) (test : ℕ → Bool) : Type 0 where
+  pub at : ℕ
+  pub below : at < n
+  pub passes : T (test at)
+
+pub any→ : (n : ℕ) (test : ℕ → Bool) → T (any n test) → Found n test
+unfolding any
+any→ zero test t = absurd t
+any→ (suc n) test t =
+    ⊎-elim
+    (λ (u : T (any n test)). let f = any→ n test u in record { at = f .at; below = omega (arith, f .below); passes = f .passes })
+    (λ (u : T (test n)). record { at = n; below = omega arith; passes = u })
+    (or-e (any n test) (test n) t)
+
+-- none passes
+pub any-none : (n : ℕ) (test : ℕ → Bool) → ((i : ℕ) → i < n → test i ≡ false) → any n test ≡ false
+any-none n test h = is-false (any n test) (λ t. let f = any→ n test t in subst T (h (f .at) (f .below)) (f .passes))
+
+pub count-none : (n : ℕ) (test : ℕ → Bool) → ((i : ℕ) → i < n → test i ≡ false) → count n test ≡ 0
+unfolding count
+count-none zero test h = refl
+count-none (suc n) test h = rw (h n (omega arith)) (omega (arith, count-none n test (λ i l. h i (omega arith))))
+
+-- one number more passes
+pub count-more : (n : ℕ) (test : ℕ → Bool) (at : ℕ) → at < n → test at ≡ false → count n (λ (i : ℕ). test i || eqb i at) ≡ count n test + 1
+unfolding count
+count-more zero test at l e = absurd (omega arith)
+count-more (suc n) test at l e = by (λ m. count-more n test at m e) (eqb n at) refl
+  where
+    by : (at < n → count n (λ (i : ℕ). test i || eqb i at) ≡ count n test + 1) → (b : Bool) → eqb n at ≡ b
+        → count n (λ (i : ℕ). test i || eqb i at) + cond (test n || eqb n at) 1 0 ≡ count n test + cond (test n) 1 0 + 1
+    by f true p =
+        let q : n ≡ at = eqb-true n at p in
+        let u : test n ≡ false = ap test q ∙ e in
+        let v = count-as n (λ (i : ℕ). test i || eqb i at) test (λ i m. ap (λ (b : Bool). test i || b) (ne-eqb i at (λ r. omega arith)) ∙ or-false (test i)) in
+        simp (p, u) (omega arith)
+    by f false p =
+        let v = f (omega (arith, eqb-false n at p)) in
+        simp (p, or-false (test n)) (omega arith)

@@ -1,0 +1,4 @@
+pub mod Rule
+pub mod Listing
+pub mod Draw
+pub mod Course

@@ -1,0 +1,72 @@
+// Lines: the drawing, the listing and the pen, all by one rule.
+ghost use mathlib.Core.Path.{_≡_};
+ghost use Prim.Native.Nat.{_+_, _-_, _≤_};
+ghost use mathlib.Core.Bool.{cond};
+ghost use Rattle.sheet.specs.Inner.{Moved};
+ghost use Rattle.line.specs.Course.{gap, stepped, lesserSpot, courseFrom, courseOf, Runs, spotAt};
+use sheet::Cell;
+use sheet::Counted;
+use sheet::Refusal;
+use sheet::Shape;
+use sheet::Spot;
+
+// A line on the moved plane, from its lesser end: where it starts, whether it goes right, whether its longer extent is that of y, and both extents.
+pub struct Course {
+    pub x: u32,
+    pub y: u32,
+    pub right: bool,
+    pub steep: bool,
+    pub long: u32,
+    pub short: u32,
+}
+
+fn chosen(first: bool, a: u32, b: u32) -> u32
+    ensures { λ r. ⌜ r ≡ cond first a b ⌝ }
+{
+    if first { a } else { b }
+}
+
+fn gap_of(a: u32, b: u32) -> u32
+    ensures { λ r. ⌜ r ≡ gap a b ⌝ }
+{
+    if a <= b { b - a } else { a - b }
+}
+
+fn is_lesser(a: Spot, b: Spot) -> bool
+    ensures { λ r. ⌜ r ≡ lesserSpot a b ⌝ }
+{
+    (a.y < b.y) | ((a.y == b.y) & (a.x <= b.x))
+}
+
+// The course of a line whose lesser end is a.
+fn course_from(a: Spot, b: Spot) -> Course
+    ensures { λ r. ⌜ r ≡ courseFrom a b ⌝ }
+{
+    let wide = gap_of(a.x, b.x);
+    let tall = gap_of(a.y, b.y);
+    let steep = wide < tall;
+    Course {
+        x: a.x,
+        y: a.y,
+        right: a.x <= b.x,
+        steep,
+        long: chosen(steep, tall, wide),
+        short: chosen(steep, wide, tall),
+    }
+}
+
+// The course of the line with these ends.
+fn course_of(a: Spot, b: Spot) -> Course
+    ensures { λ r. ⌜ r ≡ courseOf a b ⌝ }
+{
+    let first = is_lesser(a, b);
+    let low = Spot {
+        x: chosen(first, a.x, b.x),
+        y: chosen(first, a.y, b.y),
+    };
+    let high = Spot {
+        x: chosen(first, b.x, a.x),
+        y: chosen(first, b.y, a.y),
+    };
+    course_from(low, high)
+}
