@@ -32,6 +32,12 @@ line-cells a b p q P Q d =
     any-as (courseOf p q .long + 1) _ _ (λ n l. ap (λ (c : Cell). isCell c d) (course-cell a b p q P Q n (omega (arith, course-runs a b p q P Q .limit))))
     ∙ ap (λ (l : ℕ). any (l + 1) (λ (n : ℕ). isCell (nth a b n) d)) (course-long a b p q P Q)
 
+-- a line with ends within the limits is drawn on a sheet that fits
+pub line-drawn : (k : Shape) (n : ℕ) (a b : Cell) (drawn before : List ℕ) → fits k n ≡ true → inLimits a ≡ true → inLimits b ≡ true
+    → settled (lineAnswer k n a b) drawn before ≡ drawn
+unfolding lineAnswer
+line-drawn k n a b drawn before e f g = simp (e, f, g)
+
 module _ (k : Shape) (ink : ℕ) (a b : Cell) (s : List ℕ) where
   pub line-size : fits k (length s) ≡ false
       → (refuse Size ≡ lineAnswer k (length s) a b) × (s ≡ settled (lineAnswer k (length s) a b) (paint k ink (onLine a b) s) s)

@@ -4,9 +4,9 @@ use mathlib.Core.Path.{_≡_, refl, sym, subst, ap, _∙_}
 use mathlib.Core.List.{List}
 use mathlib.Core.Bool.{Bool, true, false, cond, _&&_, not}
 use native.Mathlib.Omega.{arith}
-use borrow.Author.Tests.{eqb-true, eqb-false}
+use borrow.Author.Tests.{eqb-true, eqb-false, le-leb, eq-eqb}
 use lib.ListN.{length}
-use lib.Dec.{T, leb, eqb, leb→le, eqb→eq}
+use lib.Dec.{T, leb, eqb, leb→le, le→leb, eqb→eq}
 use lib.IntN.{ℤ, pos, negsuc, negℤ, natAbs, subℕ, _+ℤ_, _-ℤ_}
 use lib.Signed.{leZ}
 use mir.Syntax.{w32}
@@ -14,7 +14,7 @@ use mir.Val.{SFits, toZ, ofZ}
 use mir.Facts.{toZ-ofZ}
 use Rattle.laws.specs.Parts.{up, dn}
 use Rattle.laws.proofs.Ints.{le-parts, one-zero, parts, to-≡ℤ, up-sub, dn-sub, is-leZ, no-leZ}
-use Rattle.laws.proofs.Tests.{and-l, and-r, is-true, from-true}
+use Rattle.laws.proofs.Tests.{and-l, and-r, and-i, same, is-true, from-true}
 use Rattle.sheet.specs.Sheet.{size, bytes, fits, coordinate, inLimits, cellOf}
 use Rattle.sheet.specs.Inner.{moved, unmoved, movedCell, unmovedCell, lowered, loweredCell, Moved, Sheet}
 use Rattle.sheet.specs.declared.Cell.{Cell}
@@ -33,6 +33,13 @@ fits-sheet k s e =
       deep = search (leb→le, and-l, and-r);
       high = search (leb→le, and-l, and-r);
     }
+
+-- and a sheet fits
+pub sheet-fits : (k : Shape) (s : List ℕ) → Sheet k s → fits k (length s) ≡ true
+unfolding fits
+sheet-fits k s z =
+    simp
+    (le-leb 1 (k .width) (z .broad), le-leb (k .width) 4096 (z .wide), le-leb 1 (k .height) (z .deep), le-leb (k .height) 4096 (z .high), eq-eqb (length s) (bytes k) (z .area))
 
 -- a coordinate within the limits, by its parts
 pub limit-low : (z : ℤ) → coordinate z ≡ true → dn z ≤ 16384
@@ -115,6 +122,21 @@ is-lifted z m e = by (eqb m 0) refl
     by : (t : Bool) → eqb m 0 ≡ t → not t ≡ coordinate z
     by true p = sym (not-lifted z m e (eqb-true m 0 p))
     by false p = sym (lifted z m e (eqb-false m 0 p) .ok)
+
+-- whether a moved number stands for a coordinate
+pub moved-within : (m : ℕ) → (leb 49152 m && leb m 81919) ≡ coordinate (unmoved m)
+moved-within m =
+    same (leb 49152 m && leb m 81919) (coordinate (unmoved m))
+    (λ t.
+    let l : 49152 ≤ m = leb→le 49152 m (and-l (leb 49152 m) (leb m 81919) t) in
+    let h : m ≤ 81919 = leb→le m 81919 (and-r (leb 49152 m) (leb m 81919) t) in
+    from-true (coordinate (unmoved m)) (limit-in (unmoved m) (simp parts (omega arith)) (simp parts (omega arith))))
+    (λ t.
+    let e = is-true (coordinate (unmoved m)) t in
+    let p = stands-parts m (unmoved m) refl in
+    let l = limit-low (unmoved m) e in
+    let h = limit-high (unmoved m) e in
+    and-i (leb 49152 m) (leb m 81919) (le→leb 49152 m (omega arith)) (le→leb m 81919 (omega arith)))
 
 -- a cell within the limits, by its coordinates
 pub limits-x : (c : Cell) → inLimits c ≡ true → coordinate (c .x) ≡ true
