@@ -1,0 +1,107 @@
+-- The answer and the sheet at each return of `draw_curve`.
+use Prim.Native.Nat.{ℕ, _+_, _^_, _≤_, _<_}
+use mathlib.Core.Path.{_≡_, refl, sym, ap, ap₂, _∙_}
+use mathlib.Core.List.{List, [], _∷_}
+use mathlib.Core.Bool.{Bool, true, false, cond, _&&_, and-true}
+use native.Mathlib.Omega.{arith}
+use borrow.Author.Tests.{le-leb, lt-leb}
+use lib.ListN.{length}
+use lib.Dec.{leb}
+use lib.IntN.{ℤ}
+use lib.Pow.{pow-pos}
+use Rattle.laws.specs.Below.{any, all}
+use Rattle.laws.proofs.Below.{any-as, all-as}
+use Rattle.laws.proofs.Tests.{is-true, from-true, and-l, and-r}
+use Rattle.sheet.specs.Sheet.{fits, coordinate, inLimits, cellOf, paint}
+use Rattle.sheet.specs.Reply.{done, refuse, settled}
+use Rattle.sheet.specs.Inner.{moved, unmoved, unmovedCell}
+use Rattle.sheet.specs.declared.Cell.{Cell}
+use Rattle.sheet.specs.declared.Shape.{Shape}
+use Rattle.sheet.specs.declared.Refusal.the-variants.{Size, Coordinate, Pieces}
+use Rattle.sheet.proofs.Limits.{lift-in, limits-x, limits-y}
+use Rattle.sheet.proofs.Paint.{paint-as}
+use Rattle.line.specs.Rule.{onLine}
+use Rattle.curve.specs.Rule.{pointAt, onCurve}
+use Rattle.curve.specs.Draw.{allInLimits, joinedInLimits, curveAnswer}
+use Rattle.curve.specs.Inner.{jointOf, jointAt, controlsOf, Bends, firstPieces}
+use Rattle.curve.specs.declared.Controls.{Controls}
+use Rattle.curve.proofs.Joining.{isIn}
+use Rattle.curve.proofs.Points.{coordinate-moved}
+
+-- three tests, each of which is one of the control points
+pub three-in : (a b c : Cell) → (inLimits a && (inLimits b && inLimits c)) ≡ allInLimits (a ∷ b ∷ c ∷ [])
+unfolding allInLimits
+three-in a b c = ap (λ (t : Bool). inLimits a && (inLimits b && t)) (sym (and-true (inLimits c)))
+
+module _ (a b c : Cell) (l : allInLimits (a ∷ b ∷ c ∷ []) ≡ true) where
+  all-three : (inLimits a ≡ true) × (inLimits b ≡ true) × (inLimits c ≡ true)
+  all-three = by (inLimits a) (inLimits b) (inLimits c) (three-in a b c ∙ l)
+    where
+      by : (t u v : Bool) → (t && (u && v)) ≡ true → (t ≡ true) × (u ≡ true) × (v ≡ true)
+      by true true v e = (refl, refl, e)
+      by true false v e = absurd (from-true false e)
+      by false u v e = absurd (from-true false e)
+
+  pub bends : Bends (controlsOf a b c)
+  bends =
+      let e = all-three in
+      record {
+        x0-in = lift-in (a .x) (moved (a .x)) (limits-x a (e .0)) refl .inside;
+        x1-in = lift-in (b .x) (moved (b .x)) (limits-x b (e .1)) refl .inside;
+        x2-in = lift-in (c .x) (moved (c .x)) (limits-x c (e .2)) refl .inside;
+        y0-in = lift-in (a .y) (moved (a .y)) (limits-y a (e .0)) refl .inside;
+        y1-in = lift-in (b .y) (moved (b .y)) (limits-y b (e .1)) refl .inside;
+        y2-in = lift-in (c .y) (moved (c .y)) (limits-y c (e .2)) refl .inside;
+      }
+
+  -- the points that the code finds are the rule's
+  point-is : (s i : ℕ) → i ≤ 2 ^ s → unmovedCell (jointAt (controlsOf a b c) s i) ≡ pointAt (a ∷ b ∷ c ∷ []) (2 ^ s) i
+  unfolding jointAt pointAt
+  point-is s i m =
+      let e = all-three in
+      let x = coordinate-moved (2 ^ s) i (a .x) (b .x) (c .x) (moved (a .x)) (moved (b .x)) (moved (c .x)) (pow-pos s) m (lift-in (a .x) (moved (a .x)) (limits-x a (e .0)) refl .stands) (lift-in (b .x) (moved (b .x)) (limits-x b (e .1)) refl .stands) (lift-in (c .x) (moved (c .x)) (limits-x c (e .2)) refl .stands) in
+      let y = coordinate-moved (2 ^ s) i (a .y) (b .y) (c .y) (moved (a .y)) (moved (b .y)) (moved (c .y)) (pow-pos s) m (lift-in (a .y) (moved (a .y)) (limits-y a (e .0)) refl .stands) (lift-in (b .y) (moved (b .y)) (limits-y b (e .1)) refl .stands) (lift-in (c .y) (moved (c .y)) (limits-y c (e .2)) refl .stands) in
+      λ t. record { x = sym x t; y = sym y t }
+
+  -- and so is the union of their lines
+  pieces-are : (s : ℕ) (d : Cell) → firstPieces (controlsOf a b c) s (2 ^ s) d ≡ onCurve (a ∷ b ∷ c ∷ []) s d
+  unfolding firstPieces onCurve
+  pieces-are s d = any-as (2 ^ s) _ _ (λ i m t. onLine (point-is s i (omega arith) t) (point-is s (i + 1) (omega arith) t) d)
+
+  joined-are : (s : ℕ) → s ≤ 6 → all (2 ^ s + 1) (isIn (controlsOf a b c) s) ≡ joinedInLimits (a ∷ b ∷ c ∷ []) s
+  unfolding joinedInLimits
+  joined-are s m =
+      all-as (2 ^ s + 1) _ _ (λ i h. ap inLimits (point-is s i (omega arith)))
+      ∙ sym (ap (λ (t : Bool). cond t (all (2 ^ s + 1) (λ (i : ℕ). inLimits (pointAt (a ∷ b ∷ c ∷ []) (2 ^ s) i))) true) (le-leb s 6 m))
+
+module _ (k : Shape) (ink : ℕ) (a b c : Cell) (s : ℕ) (sheet : List ℕ) where
+  abbrev Left : List ℕ → Type 0
+  Left t = t ≡ settled (curveAnswer k (length sheet) (a ∷ b ∷ c ∷ []) s) (paint k ink (onCurve (a ∷ b ∷ c ∷ []) s) sheet) sheet
+
+  pub curve-size : fits k (length sheet) ≡ false → (refuse Size ≡ curveAnswer k (length sheet) (a ∷ b ∷ c ∷ []) s) × Left sheet
+  unfolding curveAnswer
+  curve-size e = simp e (refl, refl)
+
+  pub curve-control : fits k (length sheet) ≡ true → allInLimits (a ∷ b ∷ c ∷ []) ≡ false → (refuse Coordinate ≡ curveAnswer k (length sheet) (a ∷ b ∷ c ∷ []) s) × Left sheet
+  unfolding curveAnswer
+  curve-control e f = simp (e, f) (refl, refl)
+
+  none-joined : 6 < s → joinedInLimits (a ∷ b ∷ c ∷ []) s ≡ true
+  unfolding joinedInLimits
+  none-joined l = simp (lt-leb s 6 l)
+
+  pub curve-pieces : fits k (length sheet) ≡ true → allInLimits (a ∷ b ∷ c ∷ []) ≡ true → 6 < s → (refuse Pieces ≡ curveAnswer k (length sheet) (a ∷ b ∷ c ∷ []) s) × Left sheet
+  unfolding curveAnswer
+  curve-pieces e f g = simp (e, f, none-joined g, lt-leb s 6 g) (refl, refl)
+
+  pub curve-joined : fits k (length sheet) ≡ true → allInLimits (a ∷ b ∷ c ∷ []) ≡ true → s ≤ 6 → all (2 ^ s + 1) (isIn (controlsOf a b c) s) ≡ false
+      → (refuse Coordinate ≡ curveAnswer k (length sheet) (a ∷ b ∷ c ∷ []) s) × Left sheet
+  unfolding curveAnswer
+  curve-joined e f g h = simp (e, f, sym (joined-are a b c f s g) ∙ h) (refl, refl)
+
+  pub curve-done : fits k (length sheet) ≡ true → allInLimits (a ∷ b ∷ c ∷ []) ≡ true → s ≤ 6 → all (2 ^ s + 1) (isIn (controlsOf a b c) s) ≡ true
+      → (t : List ℕ) → t ≡ paint k ink (firstPieces (controlsOf a b c) s (2 ^ s)) sheet
+      → (done [] ≡ curveAnswer k (length sheet) (a ∷ b ∷ c ∷ []) s) × Left t
+  unfolding curveAnswer
+  curve-done e f g h t u =
+      simp (e, f, sym (joined-are a b c f s g) ∙ h, le-leb s 6 g) (refl, u ∙ paint-as k ink _ _ sheet (λ x y v w. pieces-are a b c f s (cellOf x y)))

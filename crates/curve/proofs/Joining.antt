@@ -1,0 +1,84 @@
+-- The loops over the points of a curve: what holds after i of them, and that a turn keeps it.
+use Prim.Native.Nat.{ℕ, _+_, _^_, _≤_, _<_}
+use mathlib.Core.Path.{_≡_, refl, sym, ap, _∙_}
+use mathlib.Core.List.{List}
+use mathlib.Core.Bool.{Bool, true, false, _&&_, _||_}
+use native.Mathlib.Omega.{arith}
+use lib.ListN.{length}
+use Rattle.laws.specs.Below.{any, all}
+use Rattle.laws.proofs.Below.{any-more, all-more, all→}
+use Rattle.laws.proofs.Tests.{is-true, from-true}
+use Rattle.sheet.specs.Sheet.{cellOf, inLimits, paint}
+use Rattle.sheet.specs.Inner.{Sheet, unmovedCell}
+use Rattle.sheet.specs.declared.Cell.{Cell}
+use Rattle.sheet.specs.declared.Shape.{Shape}
+use Rattle.sheet.specs.declared.Spot.{Spot}
+use Rattle.sheet.proofs.Paint.{paint-as, paint-none, paint-then, paint-length}
+use Rattle.line.specs.Rule.{onLine}
+use Rattle.curve.specs.Inner.{jointAt, firstPieces}
+use Rattle.curve.specs.declared.Controls.{Controls}
+
+-- whether the ith point is within the limits
+abbrev pub isIn : Controls → ℕ → ℕ → Bool
+isIn c s i = inLimits (unmovedCell (jointAt c s i))
+
+pub none-tested : (c : Controls) (s : ℕ) → true ≡ all 0 (isIn c s)
+unfolding all
+none-tested c s = refl
+
+pub one-tested : (c : Controls) (s i : ℕ) (ok in-limits : Bool) (p : Spot) → ok ≡ all i (isIn c s) → in-limits ≡ inLimits (unmovedCell p) → p ≡ jointAt c s i
+    → (ok && in-limits) ≡ all (i + 1) (isIn c s)
+one-tested c s i ok in-limits p e f g =
+    (λ t. e t && (f ∙ ap (λ (q : Spot). inLimits (unmovedCell q)) g) t) ∙ sym (all-more i (isIn c s))
+
+pub point-in : (c : Controls) (s n i : ℕ) → all n (isIn c s) ≡ true → i < n → inLimits (unmovedCell (jointAt c s i)) ≡ true
+point-in c s n i e l = is-true (isIn c s i) (all→ n (isIn c s) (from-true (all n (isIn c s)) e) i l)
+
+pub record Joining (k : Shape) (ink : ℕ) (c : Controls) (s : ℕ) (sheet₀ sheet : List ℕ) (from : Spot) (i : ℕ) : Type 0 where
+  pub low : i ≤ 2 ^ s
+  pub from-is : from ≡ jointAt c s i
+  pub inked : sheet ≡ paint k ink (firstPieces c s i) sheet₀
+  pub sized : Sheet k sheet
+
+module _ (k : Shape) (ink : ℕ) (c : Controls) (s : ℕ) where
+  no-pieces : (d : Cell) → firstPieces c s 0 d ≡ false
+  unfolding firstPieces any
+  no-pieces d = refl
+
+  more-pieces : (i : ℕ) (d : Cell) → firstPieces c s (i + 1) d ≡ (firstPieces c s i d || onLine (unmovedCell (jointAt c s i)) (unmovedCell (jointAt c s (i + 1))) d)
+  unfolding firstPieces
+  more-pieces i d = any-more i (λ (i : ℕ). onLine (unmovedCell (jointAt c s i)) (unmovedCell (jointAt c s (i + 1))) d)
+
+  pub begins : (sheet : List ℕ) (from : Spot) → Sheet k sheet → from ≡ jointAt c s 0 → Joining k ink c s sheet sheet from 0
+  begins sheet from z e =
+      record {
+        low = omega arith;
+        from-is = e;
+        inked = sym (paint-none k ink (firstPieces c s 0) sheet (λ x y a b. no-pieces (cellOf x y)));
+        sized = z;
+      }
+
+  pub turn : (sheet₀ sheet t : List ℕ) (from to : Spot) (i : ℕ) → Joining k ink c s sheet₀ sheet from i → i < 2 ^ s → to ≡ jointAt c s (i + 1)
+      → t ≡ paint k ink (onLine (unmovedCell from) (unmovedCell to)) sheet → Joining k ink c s sheet₀ t to (i + 1)
+  turn sheet₀ sheet t from to i g l e f =
+      record {
+        low = omega arith;
+        from-is = e;
+        inked =
+            f
+            ∙ (λ j. paint k ink (onLine (unmovedCell (g .from-is j)) (unmovedCell (e j))) (g .inked j))
+            ∙ paint-then k ink (firstPieces c s i) (onLine (unmovedCell (jointAt c s i)) (unmovedCell (jointAt c s (i + 1)))) sheet₀
+            ∙ sym (paint-as k ink _ _ sheet₀ (λ x y a b. more-pieces i (cellOf x y)));
+        sized =
+            let z = g .sized in
+            record {
+              area = ap length f ∙ paint-length k ink (onLine (unmovedCell from) (unmovedCell to)) sheet ∙ z .area;
+              broad = z .broad;
+              wide = z .wide;
+              deep = z .deep;
+              high = z .high;
+            };
+      }
+
+  pub ends : (sheet₀ sheet : List ℕ) (from : Spot) (i : ℕ) → Joining k ink c s sheet₀ sheet from i → 2 ^ s ≤ i → sheet ≡ paint k ink (firstPieces c s (2 ^ s)) sheet₀
+  ends sheet₀ sheet from i g l = let e : i ≡ 2 ^ s = omega (arith, g .low) in g .inked ∙ ap (λ (j : ℕ). paint k ink (firstPieces c s j) sheet₀) e

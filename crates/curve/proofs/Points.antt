@@ -1,0 +1,93 @@
+-- The points of a curve: the first and the last, backwards, and on the moved plane.
+use Prim.Native.Nat.{ℕ, zero, suc, _+_, _-_, _*_, _/_, _^_, _≤_, _<_}
+use mathlib.Core.Path.{_≡_, sym, ap, _∙_}
+use mathlib.Core.Logic.{_⊎_, inl, inr}
+use mathlib.Core.List.{List, [], _∷_, map, reverse, reverseAux}
+use native.Mathlib.Nat.{pow-zero, pow-succ', mul-le-mul, add-zero}
+use native.Mathlib.Omega.{arith}
+use lib.ListN.{length, getD, length-reverse}
+use lib.IntN.{ℤ, pos, _*ℤ_, _-ℤ_}
+use Rattle.laws.specs.Parts.{up, dn}
+use Rattle.laws.proofs.Products.{lt-or-ge}
+use Rattle.sheet.specs.Inner.{unmoved}
+use Rattle.sheet.proofs.Limits.{stands-parts}
+use Rattle.sheet.specs.declared.Cell.{Cell}
+use Rattle.curve.specs.Rule.{blend, rounded, degree, coordinateAt, pointAt}
+use Rattle.curve.proofs.Blend.{blendℕ, blend-moved, blend-three, blend-first, blend-last, blend-as, blend-back}
+use Rattle.curve.proofs.Round.{rounded-is, rounded-whole}
+
+-- a power of a positive number is positive
+pow-above : (n d : ℕ) → 0 < n → 0 < n ^ d
+pow-above n zero l = omega (arith, pow-zero n)
+pow-above n (suc d) l = omega (arith, pow-succ' n d, mul-pos n (n ^ d) l (pow-above n d l))
+  where
+    mul-pos : (a b : ℕ) → 0 < a → 0 < b → 0 < a * b
+    mul-pos a b p q = mul-le-mul {n₁ = 1} {m₁ = 1} {n₂ = a} {m₂ = b} p q
+
+module _ (ps : List ℤ) (n : ℕ) (l : 0 < n) where
+  -- The first and last points are P0 and P2 exactly.
+  pub coordinate-first : coordinateAt ps n 0 ≡ getD ps 0 (pos 0)
+  unfolding coordinateAt
+  coordinate-first =
+      ap (λ (z : ℤ). rounded z (n ^ degree ps)) (blend-first (degree ps) n (λ (j : ℕ). getD ps j (pos 0)))
+      ∙ rounded-whole (getD ps 0 (pos 0)) (n ^ degree ps) (pow-above n (degree ps) l)
+
+  pub coordinate-last : coordinateAt ps n n ≡ getD ps (degree ps) (pos 0)
+  unfolding coordinateAt
+  coordinate-last =
+      ap (λ (z : ℤ). rounded z (n ^ degree ps)) (blend-last (degree ps) n (λ (j : ℕ). getD ps j (pos 0)))
+      ∙ rounded-whole (getD ps (degree ps) (pos 0)) (n ^ degree ps) (pow-above n (degree ps) l)
+
+-- a list backwards
+after : (l r : List ℤ) (k : ℕ) (d : ℤ) → getD (reverseAux l r) (length l + k) d ≡ getD r k d
+after [] r k d = let e : 0 + k ≡ k = omega arith in ap (λ (n : ℕ). getD r n d) e
+after (a ∷ l) r k d = let e : suc (length l) + k ≡ length l + suc k = omega arith in ap (λ (n : ℕ). getD (reverseAux l (a ∷ r)) n d) e ∙ after l (a ∷ r) (suc k) d
+
+within : (l r : List ℤ) (j : ℕ) (d : ℤ) → j < length l → getD (reverseAux l r) j d ≡ getD l (length l - suc j) d
+within [] r j d m = absurd (omega arith)
+within (a ∷ l) r j d m = by (λ h. within l (a ∷ r) j d h) (lt-or-ge j (length l))
+  where
+    by : (j < length l → getD (reverseAux l (a ∷ r)) j d ≡ getD l (length l - suc j) d) → (j < length l) ⊎ (length l ≤ j)
+        → getD (reverseAux l (a ∷ r)) j d ≡ getD (a ∷ l) (suc (length l) - suc j) d
+    by f (inl h) = let e : suc (length l) - suc j ≡ suc (length l - suc j) = omega arith in f h ∙ sym (ap (λ (n : ℕ). getD (a ∷ l) n d) e)
+    by f (inr h) =
+        let e : j ≡ length l + 0 = omega arith in
+        let g : suc (length l) - suc j ≡ 0 = omega arith in
+        ap (λ (n : ℕ). getD (reverseAux l (a ∷ r)) n d) e ∙ after l (a ∷ r) 0 d ∙ sym (ap (λ (n : ℕ). getD (a ∷ l) n d) g)
+
+-- control values reversed give the points reversed
+pub coordinate-reversed : (ps : List ℤ) (n i : ℕ) → 0 < length ps → i ≤ n → coordinateAt (reverse ps) n (n - i) ≡ coordinateAt ps n i
+unfolding coordinateAt
+coordinate-reversed ps n i l m =
+    let d = degree ps in
+    let e : degree (reverse ps) ≡ d = ap (λ (k : ℕ). k - 1) (length-reverse ps) in
+    let b =
+    blend-as d n (n - i) (λ (j : ℕ). getD (reverse ps) j (pos 0)) (λ (j : ℕ). getD ps (d - j) (pos 0))
+    (λ j h. let f : length ps - suc j ≡ d - j = omega arith in within ps [] j (pos 0) (omega arith) ∙ ap (λ (k : ℕ). getD ps k (pos 0)) f)
+    ∙ blend-back d n i (λ (j : ℕ). getD ps j (pos 0)) m in
+    (λ t. rounded (blend (e t) n (n - i) (λ (j : ℕ). getD (reverse ps) j (pos 0))) (n ^ e t)) ∙ ap (λ (z : ℤ). rounded z (n ^ d)) b
+
+-- one coordinate of three moved control values
+square : (n : ℕ) → n ^ 2 ≡ n * n
+square n = pow-succ' n 1 ∙ ap (λ (t : ℕ). n * t) (pow-succ' n 0 ∙ ap (λ (t : ℕ). n * t) (pow-zero n)) ∙ omega arith
+
+pub coordinate-moved : (n i : ℕ) (z₀ z₁ z₂ : ℤ) (p₀ p₁ p₂ : ℕ) → 0 < n → i ≤ n → unmoved p₀ ≡ z₀ → unmoved p₁ ≡ z₁ → unmoved p₂ ≡ z₂
+    → coordinateAt (z₀ ∷ z₁ ∷ z₂ ∷ []) n i ≡ unmoved ((2 * ((n - i) * (n - i) * p₀ + 2 * (i * (n - i)) * p₁ + i * i * p₂) + n * n) / (2 * (n * n)))
+unfolding coordinateAt
+coordinate-moved n i z₀ z₁ z₂ p₀ p₁ p₂ l m e₀ e₁ e₂ =
+    let b = blend-moved 2 n i values places 65536 m each in
+    let f = blend-three n i places in
+    let q = square n in
+    rounded-is (blend 2 n i values) (n ^ 2) 65536 (blendℕ 2 n i places) (pow-above n 2 l) b ∙ (λ t. unmoved ((2 * f t + q t) / (2 * q t)))
+  where
+    values : ℕ → ℤ
+    values j = getD (z₀ ∷ z₁ ∷ z₂ ∷ []) j (pos 0)
+
+    places : ℕ → ℕ
+    places j = getD (p₀ ∷ p₁ ∷ p₂ ∷ []) j 0
+
+    each : (j : ℕ) → j ≤ 2 → up (values j) + 65536 ≡ dn (values j) + places j
+    each zero h = stands-parts p₀ z₀ e₀
+    each (suc zero) h = stands-parts p₁ z₁ e₁
+    each (suc (suc zero)) h = stands-parts p₂ z₂ e₂
+    each (suc (suc (suc j))) h = absurd (omega arith)

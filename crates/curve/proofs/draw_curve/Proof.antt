@@ -1,0 +1,114 @@
+-- `curve::draw_curve` meets its contract.
+use Prim.Native.Nat.{ℕ, _+_, _^_}
+use mathlib.Core.Path.{_≡_, sym, subst, ap, _∙_}
+use mathlib.Core.Bool.{true, false}
+use mathlib.Core.List.{[], _∷_}
+use denote.Ref.{now}
+use lib.ListN.{length}
+use Rattle.laws.specs.Below.{all}
+use Rattle.laws.proofs.Tests.{no, yes}
+use Rattle.sheet.specs.Sheet.{fits, paint}
+use Rattle.sheet.proofs.Limits.{fits-sheet}
+use Rattle.curve.specs.Draw.{allInLimits}
+use Rattle.curve.specs.Inner.{Bends, controlsOf, firstPieces}
+use Rattle.curve.specs.declared.Controls.{Controls}
+use Rattle.curve.proofs.Joining.{isIn}
+use Rattle.curve.proofs.Answers.{bends, curve-size, curve-control, curve-pieces, curve-joined, curve-done}
+use borrow.Author.Needs.{needs}
+use Rattle.curve.proofs.draw_curve.Statement.{statement}
+use Rattle.curve.proofs.draw_curve.Tie as tie
+
+-- what each test showed
+fitted : (c : tie.Else1) → fits (c .before .before .before .args .shape) (length (now (c .before .before .before .args .sheet))) ≡ true
+fitted c = yes _ _ (c .before .fits2 .ensures) (c .if1 .left)
+
+limited : (c : tie.Else2) → let a = c .before .before .before .before .before .args in allInLimits (a .p0 ∷ a .p1 ∷ a .p2 ∷ []) ≡ true
+limited c = yes _ _ (c .before .in-limits .ensures) (c .if2 .left)
+
+lifted : (c : tie.After-controls-of) → Bends (c .controls-of .result)
+lifted c =
+    let inside = c .before .before in
+    let a = inside .before .before .before .before .before .args in
+    subst Bends (sym (c .controls-of .ensures)) (bends (a .p0) (a .p1) (a .p2) (limited inside))
+
+fits-requires : tie.Need-fits-requires
+fits-requires c κs = search needs
+
+returns : tie.Need-returns
+returns c =
+    let a = c .before .before .before .args in
+    curve-size (a .shape) (a .ink) (a .p0) (a .p1) (a .p2) (a .s) (now (a .sheet)) (no _ _ (c .before .fits2 .ensures) (c .if1 .taken))
+
+in-limits-requires : tie.Need-in-limits-requires
+in-limits-requires c κs = search needs
+
+returns-2 : tie.Need-returns-2
+returns-2 c =
+    let sized = c .before .before in
+    let a = sized .before .before .before .args in
+    curve-control (a .shape) (a .ink) (a .p0) (a .p1) (a .p2) (a .s) (now (a .sheet)) (fitted sized) (no _ _ (c .before .in-limits .ensures) (c .if2 .taken))
+
+returns-3 : tie.Need-returns-3
+returns-3 c =
+    let inside = c .before in
+    let sized = inside .before .before in
+    let a = sized .before .before .before .args in
+    curve-pieces (a .shape) (a .ink) (a .p0) (a .p1) (a .p2) (a .s) (now (a .sheet)) (fitted sized) (limited inside) (c .if3 .taken)
+
+controls-of-requires : tie.Need-controls-of-requires
+controls-of-requires c κs = search needs
+
+all-within-requires : tie.Need-all-within-requires
+all-within-requires c κs = (lifted c, c .before .if3 .left)
+
+returns-4 : tie.Need-returns-4
+returns-4 c =
+    let bent = c .before .before in
+    let split = bent .before in
+    let inside = split .before in
+    let sized = inside .before .before in
+    let a = sized .before .before .before .args in
+    curve-joined (a .shape) (a .ink) (a .p0) (a .p1) (a .p2) (a .s) (now (a .sheet)) (fitted sized) (limited inside) (split .if3 .left)
+    (ap (λ (k : Controls). all (2 ^ a .s + 1) (isIn k (a .s))) (sym (bent .controls-of .ensures)) ∙ no _ _ (c .before .all-within .ensures) (c .if4 .taken))
+
+join-requires : tie.Need-join-requires
+join-requires c κs =
+    let tested = c .before in
+    let bent = tested .before .before in
+    let split = bent .before in
+    let sized = split .before .before .before in
+    let a = sized .before .before .before .args in
+    ((fits-sheet (a .shape) (now (a .sheet)) (fitted sized), lifted bent, split .if3 .left), yes _ _ (tested .before .all-within .ensures) (tested .if4 .left))
+
+same-length : tie.Need-same-length
+same-length c = search needs
+
+returns-5 : tie.Need-returns-5
+returns-5 c =
+    let called = c .before .before in
+    let tested = called .before .before in
+    let bent = tested .before .before in
+    let split = bent .before in
+    let inside = split .before in
+    let sized = inside .before .before in
+    let a = sized .before .before .before .args in
+    let e = bent .controls-of .ensures in
+    curve-done (a .shape) (a .ink) (a .p0) (a .p1) (a .p2) (a .s) (now (a .sheet)) (fitted sized) (limited inside) (split .if3 .left)
+    (ap (λ (k : Controls). all (2 ^ a .s + 1) (isIn k (a .s))) (sym e) ∙ yes _ _ (tested .before .all-within .ensures) (tested .if4 .left))
+    _ (called .join .ensures ∙ ap (λ (k : Controls). paint (a .shape) (a .ink) (firstPieces k (a .s) (2 ^ a .s)) (now (a .sheet))) e)
+
+pub draw-curve-spec : {M : Type 1} → statement M
+draw-curve-spec =
+    tie.close
+    (tie.spec
+    fits-requires
+    returns
+    in-limits-requires
+    returns-2
+    returns-3
+    controls-of-requires
+    all-within-requires
+    returns-4
+    join-requires
+    same-length
+    returns-5)

@@ -1,0 +1,3 @@
+pub mod Rule
+pub mod Draw
+pub mod Inner
