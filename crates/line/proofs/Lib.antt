@@ -1,2 +1,5 @@
 pub mod Bridge
 pub mod Distinct
+pub mod Axis
+pub mod Ends
+pub mod Rise
