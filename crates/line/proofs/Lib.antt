@@ -1,5 +1,9 @@
 pub mod Bridge
 pub mod Distinct
 pub mod Axis
-pub mod Ends
-pub mod Rise
+pub mod EitherEnd
+pub mod Across
+pub mod Place
+pub mod CellsOf
+pub mod Listed
+pub mod OnLine
