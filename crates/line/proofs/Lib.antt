@@ -7,3 +7,6 @@ pub mod Place
 pub mod CellsOf
 pub mod Listed
 pub mod OnLine
+pub mod Chains
+pub mod Distances
+pub mod Third
