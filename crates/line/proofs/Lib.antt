@@ -10,3 +10,4 @@ pub mod OnLine
 pub mod Chains
 pub mod Distances
 pub mod Third
+pub mod Examples
