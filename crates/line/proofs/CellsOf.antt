@@ -1,5 +1,5 @@
 -- The list of the cells f 0, .., f (n − 1).
-use Prim.Native.Nat.{ℕ, zero, suc, _+_, _-_, _<_}
+use Prim.Native.Nat.{ℕ, zero, suc, _-_, _<_}
 use mathlib.Core.Path.{_≡_, refl, ap, _∙_}
 use mathlib.Core.List.{[], _∷_, _++_, reverse, reverse-append}
 use native.Mathlib.Omega.{arith}

@@ -15,12 +15,15 @@ use Rattle.line.specs.Distance.{alongBy, along}
 use Rattle.line.proofs.Axis.{apart-same, apart-via, steps-between}
 
 -- a step changes neither coordinate by more than 1
-touch-within : (c d : Cell) → Touch c d → (wide c d ≤ 1) × (tall c d ≤ 1)
-touch-within c d e = by (steep c d) refl e
+long-most : (c d : Cell) → (wide c d ≤ long c d) × (tall c d ≤ long c d)
+long-most c d = by (steep c d) refl
   where
-    by : (t : Bool) → steep c d ≡ t → cond t (tall c d) (wide c d) ≡ 1 → (wide c d ≤ 1) × (tall c d ≤ 1)
-    by true f e = omega (arith, ltb-true (wide c d) (tall c d) f)
-    by false f e = omega (arith, ltb-false (wide c d) (tall c d) f)
+    by : (t : Bool) → steep c d ≡ t → (wide c d ≤ cond t (tall c d) (wide c d)) × (tall c d ≤ cond t (tall c d) (wide c d))
+    by true e = omega (arith, ltb-true (wide c d) (tall c d) e)
+    by false e = omega (arith, ltb-false (wide c d) (tall c d) e)
+
+touch-within : (c d : Cell) → Touch c d → (wide c d ≤ 1) × (tall c d ≤ 1)
+touch-within c d e = omega (arith, long-most c d)
 
 -- as many cells as either extent asks
 chain-extents : {a b : Cell} {cells : List Cell} → Chain a b cells → (wide a b < length cells) × (tall a b < length cells)
