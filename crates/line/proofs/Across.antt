@@ -9,6 +9,8 @@ use Rattle.laws.proofs.Floor.{div-low, div-high}
 use Rattle.laws.proofs.Products.{lt-or-ge, mul-lt-back}
 use Rattle.line.specs.Course.{gap}
 use Rattle.line.specs.Rule.{rise}
+use Rattle.line.proofs.Fixed.{rise-start}
+use Rattle.line.proofs.Least.{rise-top}
 
 -- the floor's two bounds
 rise-below : (L S n : ℕ) → rise L S n * (2 * L) ≤ 2 * (n * S) + L
@@ -29,31 +31,26 @@ rise-half : (L S n : ℕ) → n ≤ L → 2 * gap (rise L S n * L) (n * S) ≤ L
 rise-half zero S n l = let e : n ≡ 0 = omega arith in rw e (omega arith)
 rise-half (suc L) S n l = omega (arith, rise-below (suc L) S n, rise-above (suc L) S n (omega arith))
 
--- none at the first cell, S at the last, no more than S between, and at most one more at the next
-rise-first : (L S : ℕ) → rise L S 0 ≡ 0
-rise-first zero S = rise-none S 0
-rise-first (suc L) S = let h = mul-lt-back (2 * suc L) (rise (suc L) S 0) 1 (omega (arith, rise-below (suc L) S 0)) in omega arith
+-- S at the last cell, no more than S before it, and at most one more at the next
+rise-end : (L S : ℕ) → S ≤ L → rise L S L ≡ S
+rise-end zero S l = omega (arith, rise-none S 0)
+rise-end (suc L) S l =
+    let r = rise (suc L) S (suc L) in
+    let h = mul-lt-back (2 * suc L) r (S + 1) (omega (arith, rise-below (suc L) S (suc L))) in
+    let k = mul-lt-back (2 * suc L) S (r + 1) (omega (arith, rise-above (suc L) S (suc L) (omega arith))) in
+    omega arith
 
-module _ (S : ℕ) where
-  rise-last : (L : ℕ) → S ≤ L → rise L S L ≡ S
-  rise-last zero l = omega (arith, rise-none S 0)
-  rise-last (suc L) l =
-      let h = mul-lt-back (2 * suc L) (rise (suc L) S (suc L)) (S + 1) (omega (arith, rise-below (suc L) S (suc L))) in
-      let k = mul-lt-back (2 * suc L) S (rise (suc L) S (suc L) + 1) (omega (arith, rise-above (suc L) S (suc L) (omega arith))) in
-      omega arith
+pub rise-within : (L S n : ℕ) → S ≤ L → n ≤ L → rise L S n ≤ S
+rise-within L S n l h = omega (arith, rise-top L S n (S + 1) l h (omega arith))
 
-  pub rise-within : (L n : ℕ) → n ≤ L → rise L S n ≤ S
-  rise-within zero n l = omega (arith, rise-none S n)
-  rise-within (suc L) n l =
-      let h = mul-lt-back (2 * suc L) (rise (suc L) S n) (S + 1) (omega (arith, rise-below (suc L) S n, mul-le-mul-right S l)) in
-      omega arith
-
-  rise-grows : (L n : ℕ) → S ≤ L → (rise L S n ≤ rise L S (n + 1)) × (rise L S (n + 1) ≤ rise L S n + 1)
-  rise-grows zero n l = omega (arith, rise-none S n, rise-none S (n + 1))
-  rise-grows (suc L) n l =
-      let h = mul-lt-back (2 * suc L) (rise (suc L) S n) (rise (suc L) S (n + 1) + 1) (omega (arith, rise-below (suc L) S n, rise-above (suc L) S (n + 1) (omega arith))) in
-      let k = mul-lt-back (2 * suc L) (rise (suc L) S (n + 1)) (rise (suc L) S n + 2) (omega (arith, rise-below (suc L) S (n + 1), rise-above (suc L) S n (omega arith))) in
-      omega arith
+rise-grows : (L S n : ℕ) → S ≤ L → (rise L S n ≤ rise L S (n + 1)) × (rise L S (n + 1) ≤ rise L S n + 1)
+rise-grows zero S n l = omega (arith, rise-none S n, rise-none S (n + 1))
+rise-grows (suc L) S n l =
+    let r = rise (suc L) S n in
+    let q = rise (suc L) S (n + 1) in
+    let h = mul-lt-back (2 * suc L) r (q + 1) (omega (arith, rise-below (suc L) S n, rise-above (suc L) S (n + 1) (omega arith))) in
+    let k = mul-lt-back (2 * suc L) q (r + 2) (omega (arith, rise-below (suc L) S (n + 1), rise-above (suc L) S n (omega arith))) in
+    omega arith
 
 -- the same, counted from the first named end, which is the lesser or not
 abbrev pub crossed : Bool → ℕ → ℕ → ℕ → ℕ
@@ -62,24 +59,24 @@ crossed first L S n = cond first (rise L S n) (S - rise L S (L - n))
 pub crossed-half : (t : Bool) (L S n : ℕ) → S ≤ L → n ≤ L → 2 * gap (crossed t L S n * L) (n * S) ≤ L
 crossed-half true L S n l h = rise-half L S n h
 crossed-half false L S n l h =
-    by (S - rise L S (L - n)) (rise L S (L - n)) (L - n) (omega (arith, rise-within S L (L - n) (omega arith))) (omega arith) (rise-half L S (L - n) (omega arith))
+    by (S - rise L S (L - n)) (rise L S (L - n)) (L - n) (omega (arith, rise-within L S (L - n) l (omega arith))) (omega arith) (rise-half L S (L - n) (omega arith))
   where
     by : (m r k : ℕ) → m + r ≡ S → n + k ≡ L → 2 * gap (r * L) (k * S) ≤ L → 2 * gap (m * L) (n * S) ≤ L
     by m r k e f g = omega (arith, ap (λ (t : ℕ). t * L) e, ap (λ (t : ℕ). t * S) f)
 
 pub crossed-first : (t : Bool) (L S : ℕ) → S ≤ L → crossed t L S 0 ≡ 0
-crossed-first true L S l = rise-first L S
-crossed-first false L S l = let e : L - 0 ≡ L = omega arith in omega (arith, ap (rise L S) e, rise-last S L l)
+crossed-first true L S l = rise-start L S
+crossed-first false L S l = let e : L - 0 ≡ L = omega arith in omega (arith, ap (rise L S) e, rise-end L S l)
 
 pub crossed-last : (t : Bool) (L S : ℕ) → S ≤ L → crossed t L S L ≡ S
-crossed-last true L S l = rise-last S L l
-crossed-last false L S l = let e : L - L ≡ 0 = omega arith in omega (arith, ap (rise L S) e, rise-first L S)
+crossed-last true L S l = rise-end L S l
+crossed-last false L S l = let e : L - L ≡ 0 = omega arith in omega (arith, ap (rise L S) e, rise-start L S)
 
 pub crossed-grows : (t : Bool) (L S n : ℕ) → S ≤ L → n < L → (crossed t L S n ≤ crossed t L S (n + 1)) × (crossed t L S (n + 1) ≤ crossed t L S n + 1)
-crossed-grows true L S n l h = rise-grows S L n l
+crossed-grows true L S n l h = rise-grows L S n l
 crossed-grows false L S n l h =
     let e : L - n ≡ L - (n + 1) + 1 = omega arith in
-    omega (arith, rise-grows S L (L - (n + 1)) l, ap (rise L S) e, rise-within S L (L - n) (omega arith))
+    omega (arith, rise-grows L S (L - (n + 1)) l, ap (rise L S) e, rise-within L S (L - n) l (omega arith))
 
 -- within half a cell: none other is nearer. u − d is any whole number
 pub half-nearest : (L N M u d : ℕ) → 2 * gap (M * L) N ≤ L → gap (M * L) N ≤ gap (u * L) (d * L + N)

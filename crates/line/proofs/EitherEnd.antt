@@ -30,14 +30,15 @@ short-sym a b = λ i. shorter (wide-sym a b i) (tall-sym a b i)
 pub steep-sym : (a b : Cell) → steep b a ≡ steep a b
 steep-sym a b = λ i. ltb (wide-sym a b i) (tall-sym a b i)
 
+-- the shorter is no longer than the longer
 pub short-long : (a b : Cell) → short a b ≤ long a b
 short-long a b = shorter-le (wide a b) (tall a b)
 
--- one cell has none
+-- and both are 0 where the ends are one cell
 one-long : (a b : Cell) → a ≡ b → long a b ≡ 0
 one-long a b e = subst (λ (c : Cell). long a c ≡ 0) e (λ i. longer (apart-same (a .x) i) (apart-same (a .y) i))
 
--- each end is the lesser: they are one cell
+-- what the lesser end has, as `omega` reads it
 record Lesser (a b : Cell) : Type 0 where
   above : up (a .y) + dn (b .y) ≤ up (b .y) + dn (a .y)
   level : up (b .y) + dn (a .y) ≤ up (a .y) + dn (b .y) → up (a .x) + dn (b .x) ≤ up (b .x) + dn (a .x)
@@ -54,6 +55,7 @@ lesser-is a b e = by (ltZ (a .y) (b .y)) refl e
         let m = le-parts (a .x) (b .x) (and-r (eqZ (a .y) (b .y)) (leZ (a .x) (b .x)) t) in
         record { above = omega arith; level = λ h. m }
 
+-- each end is the lesser: they are one cell
 lesser-one : (a b : Cell) → lesser a b ≡ true → lesser b a ≡ true → a ≡ b
 lesser-one a b e f =
     let p = lesser-is a b e in
@@ -62,7 +64,7 @@ lesser-one a b e f =
     let v = to-≡ℤ (a .y) (b .y) (omega (arith, p .above, q .above)) in
     λ i. record { x = u i; y = v i }
 
--- and one of them always is
+-- and one of two always is
 lesser-none : (a b : Cell) → lesser a b ≡ false → lesser b a ≡ false → ⊥
 unfolding lesser
 lesser-none a b e f = by (ltZ (a .y) (b .y)) (ltZ (b .y) (a .y)) refl refl e f
@@ -77,7 +79,7 @@ lesser-none a b e f = by (ltZ (a .y) (b .y)) (ltZ (b .y) (a .y)) refl refl e f
         let r : eqZ (b .y) (a .y) ≡ true = is-true (eqZ (b .y) (a .y)) (subst (λ (z : ℤ). T (eqZ z (a .y))) y (eqZ-refl (a .y))) in
         omega (arith, leZ-false (a .x) (b .x) (rw s at e), leZ-false (b .x) (a .x) (rw r at f))
 
--- the nth cell counted from the lesser end, whichever is named first
+-- the rule gives the same nth cell
 pub nth-either : (a b : Cell) (n : ℕ) → nth a b n ≡ nth b a n
 unfolding nth
 nth-either a b n = by (lesser a b) (lesser b a) refl refl
