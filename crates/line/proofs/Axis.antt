@@ -1,5 +1,5 @@
 -- One axis: how far apart two places are, and the steps from one towards another.
-use Prim.Native.Nat.{ℕ, _+_, _-_, _≤_, _<_, min}
+use Prim.Native.Nat.{ℕ, _+_, _-_, _≤_, _<_}
 use mathlib.Core.Path.{_≡_, refl, sym, ap, _∙_}
 use mathlib.Core.Bool.{Bool, true, false, cond}
 use mathlib.Core.Logic.{_⊎_, inl, inr}
@@ -7,7 +7,7 @@ use native.Mathlib.Omega.{arith}
 use lib.IntN.{ℤ, pos, natAbs, _+ℤ_, _-ℤ_}
 use lib.Signed.{leZ}
 use Rattle.laws.specs.Parts.{up, dn}
-use Rattle.laws.proofs.Ints.{parts, one-zero, to-≡ℤ, leZ-true, leZ-false}
+use Rattle.laws.proofs.Ints.{parts, one-zero, to-≡ℤ, from-≡ℤ, leZ-true, leZ-false}
 use Rattle.laws.proofs.Products.{lt-or-ge}
 use Rattle.line.specs.Course.{gap}
 use Rattle.line.specs.Rule.{toward}
@@ -17,7 +17,7 @@ use Rattle.line.specs.Distance.{steps}
 abbrev pub apart : ℤ → ℤ → ℕ
 apart a b = natAbs (b -ℤ a)
 
-pub apart-is : (a b : ℤ) → apart a b ≡ gap (up b + dn a) (up a + dn b)
+apart-is : (a b : ℤ) → apart a b ≡ gap (up b + dn a) (up a + dn b)
 apart-is a b = simp parts (omega arith)
 
 pub apart-sym : (a b : ℤ) → apart a b ≡ apart b a
@@ -34,7 +34,6 @@ apart-zero a b e = to-≡ℤ a b (omega (arith, apart-is a b))
 
 -- z is the steps from a to p, counted towards b: sums on both sides of an equation, so that no `-` is left
 record Steps (a b p z : ℤ) : Type 0 where
-  least : min (up z) (dn z) ≡ 0
   rising : up a + dn b ≤ up b + dn a → up z + (up a + dn p) ≡ dn z + (up p + dn a)
   falling : up b + dn a < up a + dn b → up z + (up p + dn a) ≡ dn z + (up a + dn p)
 
@@ -42,18 +41,8 @@ steps-are : (a b p : ℤ) → Steps a b p (steps a b p)
 steps-are a b p = by (leZ a b) refl
   where
     by : (t : Bool) → leZ a b ≡ t → Steps a b p (cond t (p -ℤ a) (a -ℤ p))
-    by true e =
-        record {
-          least = one-zero (p -ℤ a);
-          rising = λ h. simp parts (omega arith);
-          falling = λ h. absurd (omega (arith, leZ-true a b e));
-        }
-    by false e =
-        record {
-          least = one-zero (a -ℤ p);
-          rising = λ h. absurd (omega (arith, leZ-false a b e));
-          falling = λ h. simp parts (omega arith);
-        }
+    by true e = record { rising = λ h. simp parts (omega arith); falling = λ h. absurd (omega (arith, leZ-true a b e)) }
+    by false e = record { rising = λ h. absurd (omega (arith, leZ-false a b e)); falling = λ h. simp parts (omega arith) }
 
 -- which way b lies
 way : (a b : ℤ) → (up a + dn b ≤ up b + dn a) ⊎ (up b + dn a < up a + dn b)
@@ -68,6 +57,13 @@ steps-between a b p n k h l e =
       | inr w ↦ omega (arith, s .falling w, apart-is a p, apart-is p b, apart-is a b)
     ])
 
+-- n more and n less, as `omega` reads them
+plus-is : (a : ℤ) (n : ℕ) → up (a +ℤ pos n) + dn a ≡ up a + n + dn (a +ℤ pos n)
+plus-is a n = simp parts (omega (arith, one-zero a))
+
+minus-is : (a : ℤ) (n : ℕ) → up (a -ℤ pos n) + n + dn a ≡ up a + dn (a -ℤ pos n)
+minus-is a n = simp parts (omega (arith, one-zero a))
+
 -- n steps towards b are n steps
 pub steps-toward : (a b : ℤ) (n : ℕ) → steps a b (toward a b n) ≡ pos n
 steps-toward a b n = by (leZ a b)
@@ -77,12 +73,12 @@ steps-toward a b n = by (leZ a b)
     by false = to-≡ℤ _ _ (simp parts (omega (arith, one-zero a)))
 
 -- and lead to one place
-pub toward-is : (a b p : ℤ) (n : ℕ) → steps a b p ≡ pos n → toward a b n ≡ p
+toward-is : (a b p : ℤ) (n : ℕ) → steps a b p ≡ pos n → toward a b n ≡ p
 toward-is a b p n e = by (leZ a b) e
   where
     by : (t : Bool) → cond t (p -ℤ a) (a -ℤ p) ≡ pos n → cond t (a +ℤ pos n) (a -ℤ pos n) ≡ p
-    by true e = let u = simp parts at (ap up e) in let v = simp parts at (ap dn e) in to-≡ℤ _ _ (simp parts (omega (arith, one-zero a)))
-    by false e = let u = simp parts at (ap up e) in let v = simp parts at (ap dn e) in to-≡ℤ _ _ (simp parts (omega (arith, one-zero a)))
+    by true e = let u = simp parts at (from-≡ℤ (p -ℤ a) (pos n) e) in to-≡ℤ _ _ (omega (arith, plus-is a n))
+    by false e = let u = simp parts at (from-≡ℤ (a -ℤ p) (pos n) e) in to-≡ℤ _ _ (omega (arith, minus-is a n))
 
 -- the ends
 pub toward-first : (a b : ℤ) → toward a b 0 ≡ a
@@ -92,12 +88,6 @@ pub toward-last : (a b : ℤ) → toward a b (apart a b) ≡ b
 toward-last a b = toward-is a b b (apart a b) (steps-between a b b (apart a b) 0 (omega arith) (omega (arith, apart-same b)) (omega arith))
 
 -- how far apart two places are, by their steps
-plus-is : (a : ℤ) (n : ℕ) → up (a +ℤ pos n) + dn a ≡ up a + n + dn (a +ℤ pos n)
-plus-is a n = simp parts (omega (arith, one-zero a))
-
-minus-is : (a : ℤ) (n : ℕ) → up (a -ℤ pos n) + n + dn a ≡ up a + dn (a -ℤ pos n)
-minus-is a n = simp parts (omega (arith, one-zero a))
-
 pub toward-apart : (a b : ℤ) (m n : ℕ) → apart (toward a b m) (toward a b n) ≡ gap m n
 toward-apart a b m n = by (leZ a b)
   where
@@ -105,7 +95,7 @@ toward-apart a b m n = by (leZ a b)
     by true = omega (arith, apart-is (a +ℤ pos m) (a +ℤ pos n), plus-is a m, plus-is a n)
     by false = omega (arith, apart-is (a -ℤ pos m) (a -ℤ pos n), minus-is a m, minus-is a n)
 
--- counted from the other end
+-- counted from the other end: where the ends are apart the steps make up the whole, and else they are the same
 pub steps-back : (a b p : ℤ) → 0 < apart a b → up (steps b a p) + up (steps a b p) ≡ apart a b + (dn (steps b a p) + dn (steps a b p))
 steps-back a b p h =
     let s = steps-are a b p in
@@ -125,6 +115,11 @@ steps-other a b p k l e = elim (lt-or-ge 0 (apart a b)) [
   | inr h ↦ sym (steps-same a b p (omega arith)) ∙ e ∙ ap pos (omega arith)
 ]
 
+-- and the places themselves
 pub toward-back : (a b : ℤ) (k : ℕ) → k ≤ apart a b → toward b a k ≡ toward a b (apart a b - k)
 toward-back a b k l =
     sym (toward-is a b (toward b a k) (apart a b - k) (steps-other a b (toward b a k) k l (steps-toward b a k)))
+
+pub toward-rest : (a b : ℤ) (k : ℕ) → k ≤ apart a b → toward b a (apart a b - k) ≡ toward a b k
+toward-rest a b k l =
+    let e : apart a b - (apart a b - k) ≡ k = omega arith in toward-back a b (apart a b - k) (omega arith) ∙ ap (toward a b) e

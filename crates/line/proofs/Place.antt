@@ -10,7 +10,7 @@ use Rattle.line.specs.Rule.{lesser, wide, tall, long, short, steep, rise
 use Rattle.line.specs.Listing.{listed}
 use Rattle.line.specs.Chain.{Touch}
 use Rattle.line.specs.Distance.{alongBy, acrossBy, along}
-use Rattle.line.proofs.Axis.{steps-toward, toward-first, toward-last, toward-apart, toward-back}
+use Rattle.line.proofs.Axis.{steps-toward, toward-first, toward-last, toward-apart, toward-back, toward-rest}
 use Rattle.line.proofs.EitherEnd.{short-long, long-sym, short-sym, steep-sym}
 use Rattle.line.proofs.Across.{crossed, rise-within}
 
@@ -56,14 +56,8 @@ at-back a b n r l k = ap (λ (t : Bool). atBy t b a (long a b - n) r) (steep-sym
   where
     by : (t : Bool) → n ≤ cond t (tall a b) (wide a b) → r ≤ cond t (wide a b) (tall a b)
         → atBy t b a (cond t (tall a b) (wide a b) - n) r ≡ atBy t a b n (cond t (wide a b) (tall a b) - r)
-    by true l k =
-        let e : tall a b - (tall a b - n) ≡ n = omega arith in
-        let v = toward-back (a .y) (b .y) (tall a b - n) (omega arith) ∙ ap (toward (a .y) (b .y)) e in
-        λ i. record { x = toward-back (a .x) (b .x) r k i; y = v i }
-    by false l k =
-        let e : wide a b - (wide a b - n) ≡ n = omega arith in
-        let u = toward-back (a .x) (b .x) (wide a b - n) (omega arith) ∙ ap (toward (a .x) (b .x)) e in
-        λ i. record { x = u i; y = toward-back (a .y) (b .y) r k i }
+    by true l k = λ i. record { x = toward-back (a .x) (b .x) r k i; y = toward-rest (a .y) (b .y) n l i }
+    by false l k = λ i. record { x = toward-rest (a .x) (b .x) n l i; y = toward-back (a .y) (b .y) r k i }
 
 -- one more along and at most one more across: they touch
 one-on : (c d : Cell) → wide c d ≤ 1 → tall c d ≤ 1 → 1 ≤ wide c d + tall c d → Touch c d

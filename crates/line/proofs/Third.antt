@@ -15,6 +15,7 @@ use Rattle.line.proofs.Listed.{listing-chain, listing-length, listing-n
 use Rattle.line.proofs.Chains.{chain-least, chain-along}
 use Rattle.line.proofs.Distances.{listed-nearest, along-either, distance-either, distance-square}
 
+-- any chain from one to the other, and one of as many cells as our line
 module _ (a b : Cell) (cells : List Cell) (chain : Chain a b cells) where
   chain-shortest : length (listing a b) ≤ length cells
   chain-shortest = omega (arith, chain-least chain, listing-length a b)
