@@ -68,7 +68,7 @@ gap-comm m n = omega arith
 gap-limit : (m n : ℕ) → Moved m → Moved n → gap m n ≤ 32767
 gap-limit m n p q = omega arith
 
-shorter-le : (w t : ℕ) → shorter w t ≤ longer w t
+pub shorter-le : (w t : ℕ) → shorter w t ≤ longer w t
 shorter-le w t = by (ltb w t) refl
   where
     by : (u : Bool) → ltb w t ≡ u → cond u w t ≤ cond u t w

@@ -1,6 +1,9 @@
 pub mod Rule
 pub mod Listing
 pub mod Draw
+pub mod Chain
+pub mod Distance
+pub mod Demand
 pub mod Course
 pub mod Fixed
 pub mod Span
