@@ -1,1 +1,4 @@
 pub mod Bridge
+pub mod Within
+pub mod Replies
+pub mod Pens

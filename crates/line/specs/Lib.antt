@@ -2,3 +2,4 @@ pub mod Rule
 pub mod Listing
 pub mod Draw
 pub mod Course
+pub mod Pen

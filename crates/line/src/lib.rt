@@ -10,6 +10,14 @@ use sheet::Refusal;
 use sheet::Shape;
 use sheet::Spot;
 
+mod pen;
+
+pub use pen::Asked;
+pub use pen::Begun;
+pub use pen::Pen;
+pub use pen::Step;
+pub use pen::advance;
+
 // A line on the moved plane, from its lesser end: where it starts, whether it goes right, whether its longer extent is that of y, and both extents.
 pub struct Course {
     pub x: u32,
