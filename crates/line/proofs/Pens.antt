@@ -53,27 +53,30 @@ courses a b p q k e f g h =
       cells = λ t u n l. rw u (listed-cell a b p q ea eb P Q n l);
     })
 
--- the answer at each return
+-- whether a pen has a cell to answer, and its answer if not
 module _ (p : Pen) where
-  pub no-pen : (inLimits (p .from) && inLimits (p .to)) ≡ false → done [] ≡ nextAnswer p
-  unfolding nextAnswer hasCell
-  no-pen e = simp e
-
-  pub at-end : Takes (p .from) (p .to) → long (p .from) (p .to) < p .told → done [] ≡ nextAnswer p
-  unfolding nextAnswer hasCell
-  at-end e l = simp (e, lt-leb (p .told) (long (p .from) (p .to)) l)
-
   pub has-cell : Takes (p .from) (p .to) → p .told ≤ long (p .from) (p .to) → hasCell p ≡ true
   unfolding hasCell
   has-cell e l = simp (e, le-leb (p .told) (long (p .from) (p .to)) l)
 
-  pub a-cell : (c : Cell) → Takes (p .from) (p .to) → p .told ≤ long (p .from) (p .to) → c ≡ nextCell p
-      → done (cellValues c ++ penValues (movedOn p)) ≡ nextAnswer p
+  pub out-of-limits : (inLimits (p .from) && inLimits (p .to)) ≡ false → hasCell p ≡ false
+  unfolding hasCell
+  out-of-limits e = simp e
+
+  pub past-last : Takes (p .from) (p .to) → long (p .from) (p .to) < p .told → hasCell p ≡ false
+  unfolding hasCell
+  past-last e l = simp (e, lt-leb (p .told) (long (p .from) (p .to)) l)
+
+  pub finishes : hasCell p ≡ false → done [] ≡ nextAnswer p
   unfolding nextAnswer
-  a-cell c e l f = simp (has-cell e l) (ap (λ (d : Cell). done (cellValues d ++ penValues (movedOn p))) f)
+  finishes e = simp e
+
+  pub answers : (c : Cell) → hasCell p ≡ true → c ≡ nextCell p → done (cellValues c ++ penValues (movedOn p)) ≡ nextAnswer p
+  unfolding nextAnswer
+  answers c e f = simp e (ap (λ (d : Cell). done (cellValues d ++ penValues (movedOn p))) f)
 
 -- the step that `next` answers
-pub nextOf : Pen → Step
+unfoldable pub nextOf : Pen → Step
 nextOf p = cond (hasCell p) (step.Cell (nextCell p) (movedOn p)) step.Finished
 
 pub next-is : (p : Pen) (s : Step) → toldStep s ≡ nextAnswer p → s ≡ nextOf p

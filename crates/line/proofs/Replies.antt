@@ -8,7 +8,7 @@ use lib.IntN.{ℤ, pos, natAbs}
 use Rattle.sheet.specs.Reply.{Answer}
 use Rattle.sheet.specs.declared.Cell.{Cell}
 use Rattle.sheet.proofs.Unique.{refusal, refusal-number, number-not-0}
-use Rattle.line.specs.Pen.{toldBegun, toldStep, toldAsked}
+use Rattle.line.specs.Pen.{penValues, toldBegun, toldStep, toldAsked}
 use Rattle.line.specs.declared.pen.Pen.{Pen}
 use Rattle.line.specs.declared.pen.Begun.{Begun}
 use Rattle.line.specs.declared.pen.Begun.the-variants as begun
@@ -24,13 +24,17 @@ cellOf s = record { x = getD s 0 (pos 0); y = getD s 1 (pos 0) }
 penOf : List ℤ → Pen
 penOf s = record { from = cellOf s; to = cellOf (drop 2 s); told = natAbs (getD s 4 (pos 0)) }
 
+pen-of : (p : Pen) → penOf (penValues p) ≡ p
+unfolding penOf cellOf
+pen-of p = refl
+
 -- the reply that an answer tells
 begunOf : Answer → Begun
 begunOf a = cond (eqb (a .number) 0) (begun.Pen (penOf (a .values))) (begun.Refused (refusal (a .number)))
 
 begun-of : (r : Begun) → begunOf (toldBegun r) ≡ r
-unfolding begunOf penOf cellOf
-begun-of (begun.Pen p) = refl
+unfolding begunOf
+begun-of (begun.Pen p) = ap begun.Pen (pen-of p)
 begun-of (begun.Refused r) = simp (number-not-0 r, refusal-number r)
 
 stepOf : List ℤ → Step
@@ -51,7 +55,10 @@ unfolding askedBy cellOf
 asked-by (asked.Cell c) = refl
 asked-by asked.Finished = refl
 
--- two replies told alike are equal
+-- two pens, and two replies, told alike are equal
+pub pen-one : (p q : Pen) → penValues p ≡ penValues q → p ≡ q
+pen-one p q e = sym (pen-of p) ∙ ap penOf e ∙ pen-of q
+
 pub begun-one : (r q : Begun) → toldBegun r ≡ toldBegun q → r ≡ q
 begun-one r q e = sym (begun-of r) ∙ ap begunOf e ∙ begun-of q
 

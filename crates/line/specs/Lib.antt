@@ -3,3 +3,4 @@ pub mod Listing
 pub mod Draw
 pub mod Course
 pub mod Pen
+pub mod Asking

@@ -79,12 +79,12 @@ fn spot_at(course: Course, n: u32) -> Spot
     }
 }
 
-// The nth cell of a course, from its lesser end or from the other.
-fn cell_at(course: Course, first: bool, n: u32) -> Cell
+// The nth cell of a course, counted forward from its lesser end or back from the other.
+fn cell_at(course: Course, forward: bool, n: u32) -> Cell
     requires { ⌜ Runs course × (n ≤ course .long) ⌝ }
-    ensures { λ r. ⌜ r ≡ loweredCell (spotAt course (cond first n (course .long - n))) ⌝ }
+    ensures { λ r. ⌜ r ≡ loweredCell (spotAt course (cond forward n (course .long - n))) ⌝ }
 {
-    let spot = spot_at(course, chosen(first, n, course.long - n));
+    let spot = spot_at(course, chosen(forward, n, course.long - n));
     Cell {
         x: lower(spot.x),
         y: lower(spot.y),
@@ -129,24 +129,25 @@ impl Pen {
     pub fn next(self) -> Step
         ensures { λ r. ⌜ toldStep r ≡ nextAnswer self ⌝ }
     {
-        let from = self.from;
-        let to = self.to;
+        let first = self.from;
+        let second = self.to;
         let told = self.told;
-        if !Pen::takes_ends(from, to) {
+        if !Pen::takes_ends(first, second) {
             return Step::Finished;
         }
-        let a = lift_cell(from);
-        let b = lift_cell(to);
+        let a = lift_cell(first);
+        let b = lift_cell(second);
         let course = course_of(a, b);
-        if course.long < told {
+        let cells = course.long + 1;
+        if cells <= told {
             return Step::Finished;
         }
         let cell = cell_at(course, is_lesser(a, b), told);
         Step::Cell(
             cell,
             Pen {
-                from,
-                to,
+                from: first,
+                to: second,
                 told: told + 1,
             },
         )

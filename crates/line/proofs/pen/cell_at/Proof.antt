@@ -19,7 +19,7 @@ spot-at-requires : tie.Need-spot-at-requires
 spot-at-requires c κs =
     let start = c .before .before in
     let a = start .args in
-    (start .pre .0, rw (c .chosen .ensures) (from-either (a .first) (a .n) (a .course .long) (start .pre .1)))
+    (start .pre .0, rw (c .chosen .ensures) (from-either (a .forward) (a .n) (a .course .long) (start .pre .1)))
 
 lower-requires : tie.Need-lower-requires
 lower-requires c κs = search needs
