@@ -16,8 +16,8 @@ use Rattle.sheet.specs.declared.Cell.{Cell}
 use Rattle.sheet.specs.declared.Refusal.the-variants.{Coordinate}
 use Rattle.line.specs.Rule.{long}
 use Rattle.line.specs.Listing.{listed}
-use Rattle.line.specs.Pen.{penValues, toldBegun, toldStep, toldAsked, fresh, beginAnswer, hasCell, nextCell, movedOn, nextAnswer, askAnswer, left, askedOf, keptOf}
-use Rattle.line.specs.Asking.{after, lentAfter, Lists, Reached, begun, asked, lent}
+use Rattle.line.specs.Pen.{penValues, toldBegun, toldStep, fresh, beginAnswer, hasCell, nextCell, movedOn, nextAnswer, askAnswer, left, askedOf}
+use Rattle.line.specs.Asking.{Asks, Lends, Lists, Reached, begun, asked, lent}
 use Rattle.line.specs.declared.pen.Pen.{Pen}
 use Rattle.line.specs.declared.pen.Begun.the-variants as begin
 use Rattle.line.specs.declared.pen.Step.{Step}
@@ -39,65 +39,65 @@ begins a b p e = by (inLimits a && inLimits b) e
     by true f = (refl, pen-one p (fresh a b) (ap (λ (r : Answer). r .values) f))
     by false f = absurd (omega (arith, ap (λ (r : Answer). r .number) f))
 
-module _ (next : Pen → Step) (meets : (p : Pen) → toldStep (next p) ≡ nextAnswer p) (a b : Cell) (e : Takes a b) where
-  next-cell : (n : ℕ) → n ≤ long a b → next (told a b n) ≡ step.Cell (listed a b n) (told a b (n + 1))
+-- the reply of a pen that has answered n cells, and the pen that it leaves
+module _ (a b : Cell) (e : Takes a b) where
+  next-cell : (n : ℕ) (s : Step) → toldStep s ≡ nextAnswer (told a b n) → n ≤ long a b → s ≡ step.Cell (listed a b n) (told a b (n + 1))
   unfolding nextOf
-  next-cell n l = next-is (told a b n) (next (told a b n)) (meets (told a b n)) ∙ simp (has-cell (told a b n) e l)
+  next-cell n s f l = next-is (told a b n) s f ∙ simp (has-cell (told a b n) e l)
 
-  next-none : (n : ℕ) → long a b < n → next (told a b n) ≡ step.Finished
+  next-none : (n : ℕ) (s : Step) → toldStep s ≡ nextAnswer (told a b n) → long a b < n → s ≡ step.Finished
   unfolding nextOf
-  next-none n l = next-is (told a b n) (next (told a b n)) (meets (told a b n)) ∙ simp (past-last (told a b n) e l)
+  next-none n s f l = next-is (told a b n) s f ∙ simp (past-last (told a b n) e l)
+
+  left-at : (n m : ℕ) → n ≤ long a b + 1 → m ≡ min (n + 1) (long a b + 1) → left (told a b n) ≡ told a b m
+  unfolding left
+  left-at n m l f = elim (lt-or-ge (long a b) n) [ inl h ↦ last h | inr h ↦ more h ]
+    where
+      last : long a b < n → cond (hasCell (told a b n)) (told a b (n + 1)) (told a b n) ≡ told a b m
+      last h = let g : n ≡ m = omega arith in simp (past-last (told a b n) e h) (ap (told a b) g)
+
+      more : n ≤ long a b → cond (hasCell (told a b n)) (told a b (n + 1)) (told a b n) ≡ told a b m
+      more h = let g : n + 1 ≡ m = omega arith in simp (has-cell (told a b n) e h) (ap (told a b) g)
+
+-- by value, too, the pen asked next is the one that the lent form leaves
+then-left : {p : Pen} {pens : ℕ → Pen} {steps : ℕ → Step} → Asks p pens steps → (n : ℕ) → pens (suc n) ≡ left (pens n)
+then-left {pens = pens} {steps = steps} r n = asks (pens n) (steps n) (askedOf (steps n)) (pens (suc n)) (r .reply n) refl (r .then n) .1
+
+module _ (a b : Cell) (p : Pen) (pens : ℕ → Pen) (steps : ℕ → Step) (e : toldBegun (begin.Pen p) ≡ beginAnswer a b) (r : Asks p pens steps) where
+  within : Takes a b
+  within = begins a b p e .0
 
   -- one cell is answered at each asking, until all are
-  moves : (n m : ℕ) → n ≤ long a b + 1 → m ≡ min (n + 1) (long a b + 1) → keptOf (next (told a b n)) (told a b n) ≡ told a b m
-  moves n m l f = elim (lt-or-ge (long a b) n) [ inl h ↦ ended h | inr h ↦ moved h ]
-    where
-      ended : long a b < n → keptOf (next (told a b n)) (told a b n) ≡ told a b m
-      ended h = let g : n ≡ m = omega arith in ap (λ (s : Step). keptOf s (told a b n)) (next-none n h) ∙ ap (told a b) g
+  pens-are : (n m : ℕ) → m ≡ min n (long a b + 1) → pens n ≡ told a b m
+  pens-are zero m f = let g : 0 ≡ m = omega arith in r .first ∙ begins a b p e .1 ∙ ap (told a b) g
+  pens-are (suc n) m f =
+      let k = min n (long a b + 1) in
+      then-left r n ∙ ap left (pens-are n k refl) ∙ left-at a b within k m (omega arith) (omega arith)
 
-      moved : n ≤ long a b → keptOf (next (told a b n)) (told a b n) ≡ told a b m
-      moved h = let g : n + 1 ≡ m = omega arith in ap (λ (s : Step). keptOf s (told a b n)) (next-cell n h) ∙ ap (told a b) g
+  reply-of : (n m : ℕ) → m ≡ min n (long a b + 1) → toldStep (steps n) ≡ nextAnswer (told a b m)
+  reply-of n m f = r .reply n ∙ ap nextAnswer (pens-are n m f)
 
-  after-is : (n m : ℕ) → m ≡ min n (long a b + 1) → after next (fresh a b) n ≡ told a b m
-  unfolding after
-  after-is zero m f = let g : 0 ≡ m = omega arith in ap (told a b) g
-  after-is (suc n) m f =
-      ap (λ (q : Pen). keptOf (next q) q) (after-is n (min n (long a b + 1)) refl) ∙ moves (min n (long a b + 1)) m (omega arith) (omega arith)
-
-  lists : Lists next a b (fresh a b)
-  lists =
+  -- a pen that was begun lists the cells of its line
+  pub begun-lists : Lists a b pens steps
+  begun-lists =
       record {
         cells = λ n l.
-            ap next (after-is n n (omega arith))
-            ∙ next-cell n l
-            ∙ ap (step.Cell (listed a b n)) (sym (after-is (suc n) (n + 1) (omega arith)));
-        finished = λ n l. ap next (after-is n (long a b + 1) (omega arith)) ∙ next-none (long a b + 1) (omega arith);
-        stays = λ n l. after-is (suc n) (long a b + 1) (omega arith) ∙ sym (after-is n (long a b + 1) (omega arith));
+            next-cell a b within n (steps n) (reply-of n n (omega arith)) l
+            ∙ ap (step.Cell (listed a b n)) (sym (pens-are (suc n) (n + 1) (omega arith)));
+        finished = λ n l. next-none a b within (long a b + 1) (steps n) (reply-of n (long a b + 1) (omega arith)) (omega arith);
+        stays = λ n l. pens-are (suc n) (long a b + 1) (omega arith) ∙ sym (pens-are n (long a b + 1) (omega arith));
       }
 
--- a pen that was begun lists the cells of its line
-pub begun-lists : (next : Pen → Step) → ((p : Pen) → toldStep (next p) ≡ nextAnswer p)
-    → (a b : Cell) (p : Pen) → toldBegun (begin.Pen p) ≡ beginAnswer a b → Lists next a b p
-begun-lists next meets a b p e =
-    let f = begins a b p e in
-    subst (Lists next a b) (sym (f .1)) (lists next meets a b (f .0))
+-- Both forms give the same cells: whatever pen is asked, by value and lent, the nth replies tell the same, and the pens are the same.
+module _ (p : Pen) (pens lentPens : ℕ → Pen) (steps : ℕ → Step) (replies : ℕ → Asked) (r : Asks p pens steps) (l : Lends p lentPens replies) where
+  pub same-pens : (n : ℕ) → lentPens n ≡ pens n
+  same-pens zero = l .first ∙ sym (r .first)
+  same-pens (suc n) = l .then n ∙ ap left (same-pens n) ∙ sym (then-left r n)
 
--- Both forms give the same cells: whatever pen is asked, the nth answers of the two are one, and so are the pens.
-module _ (next : Pen → Step) (meets : (p : Pen) → toldStep (next p) ≡ nextAnswer p) (ask : Pen → Asked) (leaves : Pen → Pen)
-    (lent-meets : (p : Pen) → (toldAsked (ask p) ≡ askAnswer p) × (leaves p ≡ left p)) where
-  same-asked : (p : Pen) → ask p ≡ askedOf (next p)
-  same-asked p = asked-one (ask p) (askedOf (next p)) (lent-meets p .0 ∙ sym (asks p (next p) _ _ (meets p) refl refl .0))
-
-  same-left : (p : Pen) → leaves p ≡ keptOf (next p) p
-  same-left p = lent-meets p .1 ∙ sym (asks p (next p) _ _ (meets p) refl refl .1)
-
-  pub same-pens : (p : Pen) (n : ℕ) → lentAfter leaves p n ≡ after next p n
-  unfolding after lentAfter
-  same-pens p zero = refl
-  same-pens p (suc n) = ap leaves (same-pens p n) ∙ same-left (after next p n)
-
-  pub same-cells : (p : Pen) (n : ℕ) → ask (lentAfter leaves p n) ≡ askedOf (next (after next p n))
-  same-cells p n = ap ask (same-pens p n) ∙ same-asked (after next p n)
+  pub same-cells : (n : ℕ) → replies n ≡ askedOf (steps n)
+  same-cells n =
+      asked-one (replies n) (askedOf (steps n))
+      (l .reply n ∙ ap askAnswer (same-pens n) ∙ sym (asks (pens n) (steps n) (askedOf (steps n)) _ (r .reply n) refl refl .0))
 
 -- the states that beginning and asking leads to: ends within the limits, and no more told than the line has cells
 abbrev pub Reachable : Pen → Type 0

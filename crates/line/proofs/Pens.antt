@@ -28,10 +28,10 @@ use Rattle.line.proofs.Replies.{step-one}
 abbrev pub Takes : Cell → Cell → Type 0
 Takes a b = (inLimits a && inLimits b) ≡ true
 
-pub first-in : (a b : Cell) → Takes a b → inLimits a ≡ true
+first-in : (a b : Cell) → Takes a b → inLimits a ≡ true
 first-in a b e = is-true (inLimits a) (and-l (inLimits a) (inLimits b) (from-true (inLimits a && inLimits b) e))
 
-pub second-in : (a b : Cell) → Takes a b → inLimits b ≡ true
+second-in : (a b : Cell) → Takes a b → inLimits b ≡ true
 second-in a b e = is-true (inLimits b) (and-r (inLimits a) (inLimits b) (from-true (inLimits a && inLimits b) e))
 
 -- the course of the line between such ends: what inner functions are promised, its length and its cells
@@ -53,7 +53,7 @@ courses a b p q k e f g h =
       cells = λ t u n l. rw u (listed-cell a b p q ea eb P Q n l);
     })
 
--- whether a pen has a cell to answer, and its answer if not
+-- whether a pen has a cell to answer, and its answer
 module _ (p : Pen) where
   pub has-cell : Takes (p .from) (p .to) → p .told ≤ long (p .from) (p .to) → hasCell p ≡ true
   unfolding hasCell

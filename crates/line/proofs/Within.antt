@@ -13,7 +13,7 @@ use Rattle.sheet.specs.Inner.{unmoved, unmovedCell, lowered}
 use Rattle.sheet.specs.declared.Cell.{Cell}
 use Rattle.sheet.specs.declared.Spot.{Spot}
 use Rattle.sheet.proofs.Limits.{LiftedCell, limit-low, limit-high, limit-in, limits-x, limits-y}
-use Rattle.line.specs.Rule.{lesser, wide, tall, longer, long, short, steep, rise, toward, fromLesser, nth}
+use Rattle.line.specs.Rule.{lesser, wide, tall, longer, long, steep, rise, toward, fromLesser, nth}
 use Rattle.line.specs.Listing.{listed}
 use Rattle.line.specs.Course.{stepped, alongX, alongY, spotAt, lesserSpot, courseOf}
 use Rattle.line.specs.declared.Course.{Course}
@@ -21,7 +21,7 @@ use Rattle.line.specs.Pen.{loweredCell}
 use Rattle.line.proofs.Bridge.{lesser-is, course-cell, course-long, long-limit}
 
 -- the steps along the shorter extent are no more than it is long
-pub rise-short : (L S n : ℕ) → n ≤ L → rise L S n ≤ S
+rise-short : (L S n : ℕ) → n ≤ L → rise L S n ≤ S
 unfolding rise
 rise-short zero S n l = omega (arith, div-zero (2 * (n * S) + 0))
 rise-short (suc L) S n l =
