@@ -97,6 +97,7 @@ impl Pen {
 
     pub const MOST: i32 = 16383;
 
+    // Whether a coordinate, a cell, and both ends are within them.
     fn takes(z: i32) -> bool
         ensures { λ r. ⌜ r ≡ coordinate z ⌝ }
     {
