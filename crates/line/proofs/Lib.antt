@@ -1,5 +1,6 @@
 pub mod Across
 pub mod Answers
+pub mod Asking
 pub mod Axis
 pub mod Bridge
 pub mod CellsOf
@@ -14,7 +15,10 @@ pub mod Least
 pub mod Listed
 pub mod Marked
 pub mod OnLine
+pub mod Pens
 pub mod Place
 pub mod Ranges
+pub mod Replies
 pub mod Third
 pub mod Walking
+pub mod Within

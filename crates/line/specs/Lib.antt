@@ -1,9 +1,11 @@
-pub mod Rule
-pub mod Listing
-pub mod Draw
+pub mod Asking
 pub mod Chain
-pub mod Distance
-pub mod Demand
 pub mod Course
+pub mod Demand
+pub mod Distance
+pub mod Draw
 pub mod Fixed
+pub mod Listing
+pub mod Pen
+pub mod Rule
 pub mod Span

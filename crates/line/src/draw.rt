@@ -10,12 +10,13 @@ ghost use Rattle.sheet.specs.Counted.{toldCounted};
 ghost use Rattle.sheet.specs.Inner.{Sheet};
 ghost use Rattle.line.specs.Rule.{rise, onLine};
 ghost use Rattle.line.specs.Draw.{lineAnswer};
-ghost use Rattle.line.specs.Course.{stepped, spotAt, Runs, firstCells};
+ghost use Rattle.line.specs.Course.{spotAt, Runs, firstCells};
 ghost use Rattle.line.specs.Fixed.{slope};
 ghost use Rattle.line.specs.Span.{enters, leaves, Least, Enters, Leaves, On, Spans, byteOf, aloneBy, bothBy};
 use crate::Course;
 use crate::chosen;
 use crate::course_of;
+use crate::stepped_by;
 use sheet::Cell;
 use sheet::Counted;
 use sheet::Refusal;
@@ -128,14 +129,6 @@ fn part(t: u64) -> u32
     ensures { λ r. ⌜ r ≡ t % 4294967296 ⌝ }
 {
     (t % 4294967296) as u32
-}
-
-// k steps from m.
-fn stepped_by(up: bool, m: u32, k: u32) -> u32
-    requires { ⌜ (32768 ≤ m) × (m ≤ 131072) × (k ≤ 32768) ⌝ }
-    ensures { λ r. ⌜ r ≡ stepped up m k ⌝ }
-{
-    if up { m + k } else { m - k }
 }
 
 // The byte of the nth cell, which is on the sheet.

@@ -1,12 +1,19 @@
 // Lines: the drawing, the listing and the pen, all by one rule.
 ghost use mathlib.Core.Path.{_≡_};
 ghost use mathlib.Core.Bool.{cond};
-ghost use Rattle.line.specs.Course.{gap, lesserSpot, courseFrom, courseOf};
+ghost use Prim.Native.Nat.{_≤_};
+ghost use Rattle.line.specs.Course.{gap, stepped, lesserSpot, courseFrom, courseOf};
 use sheet::Spot;
 
 mod draw;
+mod pen;
 
 pub use draw::draw_line;
+pub use pen::Asked;
+pub use pen::Begun;
+pub use pen::Pen;
+pub use pen::Step;
+pub use pen::advance;
 
 // A line on the moved plane, from its lesser end: where it starts, whether it goes right, whether its longer extent is that of y, and both extents.
 pub struct Course {
@@ -22,6 +29,14 @@ fn chosen(first: bool, a: u32, b: u32) -> u32
     ensures { λ r. ⌜ r ≡ cond first a b ⌝ }
 {
     if first { a } else { b }
+}
+
+// k steps from m.
+fn stepped_by(up: bool, m: u32, k: u32) -> u32
+    requires { ⌜ (32768 ≤ m) × (m ≤ 131072) × (k ≤ 32768) ⌝ }
+    ensures { λ r. ⌜ r ≡ stepped up m k ⌝ }
+{
+    if up { m + k } else { m - k }
 }
 
 fn gap_of(a: u32, b: u32) -> u32

@@ -1,7 +1,7 @@
--- `line::draw::stepped_by` meets its contract.
+-- `line::stepped_by` meets its contract.
 use borrow.Author.Needs.{needs}
-use Rattle.line.proofs.draw.stepped_by.Statement.{statement}
-use Rattle.line.proofs.draw.stepped_by.Tie as tie
+use Rattle.line.proofs.stepped_by.Statement.{statement}
+use Rattle.line.proofs.stepped_by.Tie as tie
 
 add-result : tie.Need-add-result
 add-result c = search needs
