@@ -1,0 +1,6 @@
+pub mod Order
+pub mod Search
+pub mod Cells
+pub mod Origin
+pub mod Unique
+mod Figures
