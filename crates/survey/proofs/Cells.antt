@@ -1,15 +1,15 @@
 -- The cell of a float: `findCell` answers what document 01 asks, and nothing else does.
 use mathlib.Core.Path.{_≡_, refl, sym, ap, _∙_, subst}
 use mathlib.Core.Logic.{inl, inr}
-use mathlib.Core.Bool.{Bool, true, false, cond, not, _&&_}
-use Prim.Native.Nat.{ℕ, zero, suc, _+_, _-_, _≤_, _<_}
+use mathlib.Core.Bool.{Bool, true, false, cond}
+use Prim.Native.Nat.{ℕ, zero, suc, _+_, _-_, _<_}
 use native.Mathlib.Omega.{arith}
-use lib.Dec.{T, T-not}
+use lib.Dec.{T}
 use lib.IntN.{ℤ, pos, _+ℤ_}
 use lib.Ieee.{Float, nan, inf, binary64, ofInt, le, lt}
 use Rattle.laws.specs.Parts.{up, dn}
 use Rattle.laws.proofs.Ints.{parts, one-zero, to-≡ℤ}
-use Rattle.laws.proofs.Tests.{and-l, and-r, and-i, from-true, is-true, is-false}
+use Rattle.laws.proofs.Tests.{and-l, and-r, and-i, from-true, is-true}
 use Rattle.laws.proofs.Products.{lt-or-ge}
 use Rattle.sheet.specs.Sheet.{coordinate}
 use Rattle.sheet.proofs.Limits.{limit-low, limit-high, limit-in}
@@ -21,9 +21,9 @@ use Rattle.survey.proofs.Search.{next-edge, not-below, none-low, none-h
 use Rattle.survey.proofs.Order.{le-nan}
 
 -- k is the cell of q: a whole number in −16,384 to 16,383 with k ≤ q and q < k + 1; and q has none
-abbrev pub Answers : Float → Found → Type 0
-Answers q (At k) = T (coordinate k) × T (isCellOf q k)
-Answers q NoCell = (k : ℤ) → T (coordinate k) → T (isCellOf q k) → ⊥
+abbrev pub CellOf : Float → Found → Type 0
+CellOf q (At k) = T (coordinate k) × T (isCellOf q k)
+CellOf q NoCell = (k : ℤ) → T (coordinate k) → T (isCellOf q k) → ⊥
 
 -- a cell within the limits, as q between two edges
 cell-between : (j : ℕ) (q : Float) → j < 32768 → T (isCellOf q (fromLeast j)) → Between j (j + 1) q
@@ -86,11 +86,11 @@ among-right (suc n) test = by (test (fromLeast n)) refl (among n test) (among-ri
     ]
 
 -- The cell of q is the whole number k with k ≤ q and q < k + 1; there is none exactly if no such k in the limits exists.
-pub cell-right : (q : Float) → Answers q (findCell q)
+pub cell-right : (q : Float) → CellOf q (findCell q)
 unfolding findCell Right
 cell-right q = by (among 32768 (isCellOf q)) (among-right 32768 (isCellOf q))
   where
-    by : (r : Found) → Right 32768 (isCellOf q) r → Answers q r
+    by : (r : Found) → Right 32768 (isCellOf q) r → CellOf q r
     by (At k) h = (subst (λ (z : ℤ). T (coordinate z)) (sym (h .2)) (within-limits (h .0) (h .1)), h .3)
     by NoCell h = λ k l t. let o = counted k l in h (o .count) (o .below) (subst (λ (z : ℤ). T (isCellOf q z)) (o .is) t)
 
@@ -103,14 +103,14 @@ cell-one q k j a b s t =
     let v = cell-between (n .count) q (n .below) (subst (λ (z : ℤ). T (isCellOf q z)) (n .is) t) in
     m .is ∙ ap (λ (i : ℕ). fromLeast i) (one-edge (m .count) (n .count) q u v) ∙ sym (n .is)
 
-one-answer : (q : Float) (r s : Found) → Answers q r → Answers q s → r ≡ s
+one-answer : (q : Float) (r s : Found) → CellOf q r → CellOf q s → r ≡ s
 one-answer q (At k) (At j) a b = ap At (cell-one q k j (a .0) (b .0) (a .1) (b .1))
 one-answer q (At k) NoCell a b = absurd (b k (a .0) (a .1))
 one-answer q NoCell (At j) a b = absurd (a j (b .0) (b .1))
 one-answer q NoCell NoCell a b = refl
 
 -- So no other answer is right.
-pub cell-only : (q : Float) (r : Found) → Answers q r → r ≡ findCell q
+pub cell-only : (q : Float) (r : Found) → CellOf q r → r ≡ findCell q
 cell-only q r a = one-answer q r (findCell q) a (cell-right q)
 
 -- what the search found, and what it did not

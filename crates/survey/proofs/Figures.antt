@@ -1,5 +1,5 @@
 -- The reply at each return of `to_cells`.
-use mathlib.Core.Path.{_≡_, refl, ap, _∙_}
+use mathlib.Core.Path.{_≡_}
 use mathlib.Core.Bool.{true, false}
 use lib.Ieee.{Float}
 use Rattle.sheet.specs.Reply.{refuse}

@@ -4,3 +4,4 @@ pub mod Cells
 pub mod Origin
 pub mod Unique
 mod Figures
+pub mod Examples

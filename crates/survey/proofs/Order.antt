@@ -1,12 +1,11 @@
 -- The order of a float and the whole numbers, as an order of natural numbers.
-use mathlib.Core.Path.{_≡_, refl, sym, ap, _∙_, subst}
+use mathlib.Core.Path.{_≡_, refl, ap, subst}
 use mathlib.Core.Logic.{inl, inr}
-use mathlib.Core.Bool.{Bool, true, false, not, _&&_, _||_}
+use mathlib.Core.Bool.{Bool, true, false, not, _||_}
 use Prim.Native.Nat.{ℕ, suc, _+_, _*_, _^_, _≤_, _<_}
 use native.Mathlib.Nat.{le-of-lt, eq-or-lt-of-le, mul-le-mul-right, le-of-mul-le-mul-right}
 use native.Mathlib.Omega.{arith}
-use borrow.Author.Tests.{leb-true}
-use lib.Dec.{T, T-not, not-T, leb, ltb, eqb, leb→le, le→leb, ltb→lt, lt→ltb, eqb→eq}
+use lib.Dec.{T, T-not, not-T, eqb, ltb→lt, lt→ltb, eqb→eq}
 use lib.IntN.{ℤ, pos, negsuc, natAbs}
 use lib.Ieee.{Float, nan, inf, fin, binary64, prec, down, ofInt, le, lt, below, level}
 use lib.Ieee as ieee
@@ -15,7 +14,7 @@ use lib.Ieee.Exact.{HasValue}
 use lib.Ieee.Back.{round-whole}
 use lib.Ieee.Scale.{finite}
 use Rattle.laws.specs.Parts.{up, dn}
-use Rattle.laws.proofs.Tests.{and-l, and-r, and-i, or-l, or-r, or-e, same, from-true, is-true, eqb-of}
+use Rattle.laws.proofs.Tests.{and-l, and-r, and-i, or-l, or-r, or-e, same, eqb-of}
 use Rattle.laws.proofs.Products.{lt-or-ge}
 
 -- what ±a is above zero, and what it is under zero
@@ -41,13 +40,13 @@ lt-of true a false b h = lt→ltb 0 (a + b) (omega arith)
 lt-of true a true b h = lt→ltb b a (omega arith)
 
 -- ±a = ±b, both ways
-eq-to : (s : Bool) (a : ℕ) (t : Bool) (b : ℕ) → T (level s a t b) → above s a + under t b ≡ above t b + under s a
+pub eq-to : (s : Bool) (a : ℕ) (t : Bool) (b : ℕ) → T (level s a t b) → above s a + under t b ≡ above t b + under s a
 eq-to false a false b h = omega (arith, eqb→eq a b (and-l (eqb a b) true h))
 eq-to false a true b h = omega (arith, eqb→eq a b (and-l (eqb a b) (eqb a 0) h), eqb→eq a 0 (and-r (eqb a b) (eqb a 0) h))
 eq-to true a false b h = omega (arith, eqb→eq a b (and-l (eqb a b) (eqb a 0) h), eqb→eq a 0 (and-r (eqb a b) (eqb a 0) h))
 eq-to true a true b h = omega (arith, eqb→eq a b (and-l (eqb a b) true h))
 
-eq-of : (s : Bool) (a : ℕ) (t : Bool) (b : ℕ) → above s a + under t b ≡ above t b + under s a → T (level s a t b)
+pub eq-of : (s : Bool) (a : ℕ) (t : Bool) (b : ℕ) → above s a + under t b ≡ above t b + under s a → T (level s a t b)
 eq-of false a false b h = and-i (eqb a b) true (eqb-of a b (omega arith)) tt
 eq-of false a true b h = and-i (eqb a b) (eqb a 0) (eqb-of a b (omega arith)) (eqb-of a 0 (omega arith))
 eq-of true a false b h = and-i (eqb a b) (eqb a 0) (eqb-of a b (omega arith)) (eqb-of a 0 (omega arith))

@@ -1,22 +1,23 @@
 -- Zero, and a position that equals its origin.
-use mathlib.Core.Path.{_≡_, refl, sym, ap, _∙_, subst}
-use mathlib.Core.Bool.{Bool, true, false, not, _&&_, _||_, Bool·beq, cond}
+use mathlib.Core.Path.{_≡_, refl, sym, _∙_}
+use mathlib.Core.Bool.{Bool, true, false, not}
 use Prim.Native.Nat.{ℕ, _+_, _-_, _*_, _<_}
 use native.Mathlib.Nat.{mul-pos, zero-lt-suc}
 use native.Mathlib.Omega.{arith}
 use borrow.Author.Tests.{le-ltb, ne-eqb}
-use lib.Dec.{T, ltb, eqb, ltb→lt, eqb→eq}
-use lib.IntN.{ℤ, pos}
+use lib.Dec.{T, ltb, ltb→lt}
+use lib.IntN.{pos}
 use lib.Ieee.{Float, nan, inf, fin, binary64, up, down, unlike, round, sum, sub, div, eq, le, lt, level, ofInt, ofBits}
-use lib.Ieee.Fits.{up-pos, down-pos}
+use lib.Ieee.Fits.{down-pos}
 use lib.Ieee.Scale.{round-same, finite}
 use lib.Ieee.Positive.{first-pos}
-use Rattle.laws.proofs.Tests.{and-l, and-r, and-i, eqb-of}
+use Rattle.laws.proofs.Tests.{and-l, and-r}
 use Rattle.sheet.specs.Sheet.{coordinate}
 use Rattle.survey.specs.Cell.{isCellOf, findCell}
 use Rattle.survey.specs.Metres.{sound, findCoordinate, eastward, northward}
 use Rattle.survey.specs.declared.Found.the-variants.{At}
 use Rattle.survey.specs.declared.Survey.{Survey}
+use Rattle.survey.proofs.Order.{eq-to, eq-of}
 use Rattle.survey.proofs.Cells.{cell-only}
 
 -- +0 or −0
@@ -37,15 +38,13 @@ is-zero s n c e h = rw (e, round-zero s c h) (zero s)
 sum-zero : (s : Bool) (a : ℕ) (t : Bool) (b c : ℕ) → 0 < c → T (level s a t b) → Zero (sum binary64 s a (not t) b c)
 unfolding sum
 sum-zero false a false b c h l =
-    let e = eqb→eq a b (and-l (eqb a b) true l) in
+    let e = eq-to false a false b l in
     rw (le-ltb a b (omega arith)) (is-zero false (a - b) c (omega arith) h)
 sum-zero true a true b c h l =
-    let e = eqb→eq a b (and-l (eqb a b) true l) in
+    let e = eq-to true a true b l in
     rw (le-ltb a b (omega arith)) (is-zero (ltb b a) (a - b) c (omega arith) h)
-sum-zero false a true b c h l =
-    is-zero false (a + b) c (omega (arith, eqb→eq a b (and-l (eqb a b) (eqb a 0) l), eqb→eq a 0 (and-r (eqb a b) (eqb a 0) l))) h
-sum-zero true a false b c h l =
-    is-zero true (a + b) c (omega (arith, eqb→eq a b (and-l (eqb a b) (eqb a 0) l), eqb→eq a 0 (and-r (eqb a b) (eqb a 0) l))) h
+sum-zero false a true b c h l = is-zero false (a + b) c (omega (arith, eq-to false a true b l)) h
+sum-zero true a false b c h l = is-zero true (a + b) c (omega (arith, eq-to true a false b l)) h
 
 -- equal finite floats leave zero
 sub-zero : (p o : Float) → T (eq p o) → T (finite o) → Zero (sub binary64 p o)
@@ -76,10 +75,6 @@ zero-cell x (zero true) = sym (cell-only (fin true 0 (pos 0)) (At (pos 0)) (tt, 
 zero-cell x (zero false) = sym (cell-only (fin false 0 (pos 0)) (At (pos 0)) (tt, tt))
 
 -- x - x is zero exactly where x is finite
-same-level : (s : Bool) (a : ℕ) → T (level s a s a)
-same-level true a = and-i (eqb a a) true (eqb-of a a refl) tt
-same-level false a = and-i (eqb a a) true (eqb-of a a refl) tt
-
 zero-eq : (x : Float) → Zero x → eq x (ofBits binary64 0) ≡ true
 unfolding eq ofBits
 zero-eq x (zero true) = refl
@@ -89,7 +84,7 @@ pub self-test : (x : Float) → eq (sub binary64 x x) (ofBits binary64 0) ≡ fi
 self-test nan = unfold eq sub ofBits in refl
 self-test (inf true) = unfold eq sub ofBits in refl
 self-test (inf false) = unfold eq sub ofBits in refl
-self-test (fin s m e) = zero-eq (sub binary64 (fin s m e) (fin s m e)) (sub-zero (fin s m e) (fin s m e) (unfold eq in same-level s (m * up e * down e)) tt)
+self-test (fin s m e) = zero-eq (sub binary64 (fin s m e) (fin s m e)) (sub-zero (fin s m e) (fin s m e) (unfold eq in eq-of s (m * up e * down e) s (m * up e * down e) refl) tt)
 
 -- A position equal to its origin has cell 0: of any position that compares equal to it, −0.0 and 0.0 among them, and in every sound survey.
 origin-cell : (p o size : Float) → T (eq p o) → T (finite o) → T (finite size) → T (lt (ofInt binary64 (pos 0)) size) → findCoordinate p o size ≡ At (pos 0)

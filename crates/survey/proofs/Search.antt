@@ -1,23 +1,16 @@
 -- The search for a cell: what each turn knows, and that a float has one cell at most.
-use mathlib.Core.Path.{_≡_, refl, sym, ap, _∙_, subst}
-use mathlib.Core.Logic.{inl, inr}
-use mathlib.Core.Bool.{Bool, true, false, cond, not, _&&_}
-use Prim.Native.Nat.{ℕ, zero, suc, _+_, _-_, _≤_, _<_}
+use mathlib.Core.Path.{_≡_, sym, ap, _∙_, subst}
+use mathlib.Core.Bool.{true, false, not}
+use Prim.Native.Nat.{ℕ, _+_, _≤_, _<_}
 use native.Mathlib.Omega.{arith}
 use lib.Dec.{T, T-not}
 use borrow.Author.Tests.{not-false}
-use lib.IntN.{ℤ, pos, natAbs, subℕ, _+ℤ_}
+use lib.IntN.{pos, _+ℤ_}
 use lib.Ieee.{Float, binary64, ofInt, le, lt}
-use Rattle.laws.specs.Parts.{up, dn}
-use Rattle.laws.proofs.Ints.{parts, one-zero, to-≡ℤ, natAbs-is, up-sub, dn-sub}
-use Rattle.laws.proofs.Tests.{and-l, and-r, and-i, from-true, is-true, is-false}
-use Rattle.laws.proofs.Products.{lt-or-ge}
-use Rattle.sheet.specs.Sheet.{coordinate}
-use Rattle.sheet.proofs.Limits.{limit-low, limit-high, limit-in}
-use Rattle.survey.specs.Cell.{isCellOf, fromLeast, among, findCell}
+use Rattle.laws.proofs.Ints.{parts, to-≡ℤ}
+use Rattle.laws.proofs.Tests.{from-true}
+use Rattle.survey.specs.Cell.{fromLeast}
 use Rattle.survey.specs.Inner.{Between}
-use Rattle.survey.specs.declared.Found.{Found}
-use Rattle.survey.specs.declared.Found.the-variants.{At, NoCell}
 use Rattle.survey.proofs.Order.{Small, le-lower, lt-not}
 
 -- an edge, a whole number from −16,384 to 16,384, is exact as a float

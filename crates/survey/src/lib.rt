@@ -68,7 +68,8 @@ fn last_edge(q: f64) -> u32
     let mut high: u32 = 32768;
     while high - low > 1 {
         let middle = (low + high) / 2;
-        if edge(middle) <= q {
+        let at = edge(middle);
+        if at <= q {
             low = middle;
         } else {
             high = middle;
@@ -149,7 +150,7 @@ fn circle_of(a: Found, b: Found, c: Found) -> InCells
     let Found::At(r) = c else {
         return InCells::Refused(Refusal::NoCell);
     };
-    InCells::Circle(Cell { x: x, y: y }, r)
+    InCells::Circle(Cell { x, y }, r)
 }
 
 // The ellipse of a centre and two semi-axes.
@@ -168,7 +169,7 @@ fn ellipse_of(a: Found, b: Found, c: Found, d: Found) -> InCells
     let Found::At(n) = d else {
         return InCells::Refused(Refusal::NoCell);
     };
-    InCells::Ellipse(Cell { x: x, y: y }, m, n)
+    InCells::Ellipse(Cell { x, y }, m, n)
 }
 
 // A figure in metres as one in cells: x with the east origin and y with the north.

@@ -1,7 +1,5 @@
 -- `survey::find_cell` meets its contract.
-use mathlib.Core.Path.{_≡_, ap, _∙_}
-use native.Mathlib.Omega.{arith}
-use lib.Ieee.{Float}
+use mathlib.Core.Path.{ap, _∙_}
 use mir.Syntax.{w32}
 use mir.ValLaws.{toZ-ofZ}
 use borrow.Author.Needs.{needs}
@@ -10,11 +8,6 @@ use Rattle.survey.proofs.Search.{whole-range, none-low, none-high}
 use Rattle.survey.proofs.Cells.{found-at, found-none}
 use Rattle.survey.proofs.find_cell.Statement.{statement}
 use Rattle.survey.proofs.find_cell.Tie as tie
-use Rattle.survey.proofs.find_cell.Reads as reads
-use Rattle.survey.proofs.find_cell.Lts as lts
-use Rattle.survey.proofs.edge.Reads as edge-reads
-use Rattle.survey.proofs.from_least.Reads as from-least-reads
-use Rattle.survey.proofs.last_edge.Reads as last-edge-reads
 
 edge-requires : tie.Need-edge-requires
 edge-requires c κs = search needs

@@ -6,9 +6,6 @@ use Rattle.survey.specs.Inner.{Between}
 use Rattle.survey.proofs.Search.{from-middle, to-middle}
 use Rattle.survey.proofs.last_edge.Statement.{statement}
 use Rattle.survey.proofs.last_edge.Tie as tie
-use Rattle.survey.proofs.last_edge.Reads as reads
-use Rattle.survey.proofs.last_edge.Lts as lts
-use Rattle.survey.proofs.edge.Reads as edge-reads
 
 abbrev Inv-loop : tie.InvT-loop
 Inv-loop q low₀ high₀ low high = Between low high q
