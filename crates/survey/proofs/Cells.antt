@@ -20,12 +20,12 @@ use Rattle.survey.specs.declared.Found.the-variants.{At, NoCell}
 use Rattle.survey.proofs.Search.{next-edge, not-below, none-low, none-high}
 use Rattle.survey.proofs.Order.{le-nan}
 
--- k is the cell of q: a whole number in −16,384 to 16,383 with k ≤ q and q < k + 1; and q has none
+-- what it is to be the cell of q: a whole number k in −16,384 to 16,383 with k ≤ q and q < k + 1; and for q to have none
 abbrev pub CellOf : Float → Found → Type 0
 CellOf q (At k) = T (coordinate k) × T (isCellOf q k)
 CellOf q NoCell = (k : ℤ) → T (coordinate k) → T (isCellOf q k) → ⊥
 
--- a cell within the limits, as q between two edges
+-- q is in the cell above an edge: between it and the next
 cell-between : (j : ℕ) (q : Float) → j < 32768 → T (isCellOf q (fromLeast j)) → Between j (j + 1) q
 unfolding isCellOf
 cell-between j q l t =
@@ -64,6 +64,12 @@ counted k t =
     let j = up k + 16384 - dn k in
     record { count = j; below = omega (arith, one-zero k); is = to-≡ℤ k (fromLeast j) (simp parts (omega (arith, one-zero k))) }
 
+-- so a cell of q within the limits is q between two edges
+counted-between : (q : Float) (k : ℤ) (l : T (coordinate k)) → T (isCellOf q k) → Between (counted k l .count) (counted k l .count + 1) q
+counted-between q k l t =
+    let o = counted k l in
+    cell-between (o .count) q (o .below) (subst (λ (z : ℤ). T (isCellOf q z)) (o .is) t)
+
 within-limits : (j : ℕ) → j < 32768 → T (coordinate (fromLeast j))
 within-limits j l = from-true (coordinate (fromLeast j)) (limit-in (fromLeast j) (simp parts (omega arith)) (simp parts (omega arith)))
 
@@ -99,9 +105,8 @@ pub cell-one : (q : Float) (k j : ℤ) → T (coordinate k) → T (coordinate j)
 cell-one q k j a b s t =
     let m = counted k a in
     let n = counted j b in
-    let u = cell-between (m .count) q (m .below) (subst (λ (z : ℤ). T (isCellOf q z)) (m .is) s) in
-    let v = cell-between (n .count) q (n .below) (subst (λ (z : ℤ). T (isCellOf q z)) (n .is) t) in
-    m .is ∙ ap (λ (i : ℕ). fromLeast i) (one-edge (m .count) (n .count) q u v) ∙ sym (n .is)
+    let same = one-edge (m .count) (n .count) q (counted-between q k a s) (counted-between q j b t) in
+    m .is ∙ ap (λ (i : ℕ). fromLeast i) same ∙ sym (n .is)
 
 one-answer : (q : Float) (r s : Found) → CellOf q r → CellOf q s → r ≡ s
 one-answer q (At k) (At j) a b = ap At (cell-one q k j (a .0) (b .0) (a .1) (b .1))
@@ -118,8 +123,7 @@ pub found-at : (j : ℕ) (k : ℤ) (q : Float) → Between j (j + 1) q → k ≡
 found-at j k q b e = ap At e ∙ cell-only q (At (fromLeast j)) (within-limits j (omega (arith, b .within)), between-cell j q b)
 
 pub found-none : (q : Float) → ((j : ℕ) → Between j (j + 1) q → ⊥) → NoCell ≡ findCell q
-found-none q f =
-    cell-only q NoCell (λ k l t. let o = counted k l in f (o .count) (cell-between (o .count) q (o .below) (subst (λ (z : ℤ). T (isCellOf q z)) (o .is) t)))
+found-none q f = cell-only q NoCell (λ k l t. f (counted k l .count) (counted-between q k l t))
 
 -- That covers not-a-number ..
 pub nan-none : findCell nan ≡ NoCell

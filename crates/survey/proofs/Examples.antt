@@ -8,8 +8,8 @@ use lib.Ieee.{Float, binary64, ofInt, neg, sub, div, le, lt}
 use Rattle.sheet.specs.Sheet.{coordinate}
 use Rattle.sheet.specs.Reply.{Answer, done, refuse}
 use Rattle.sheet.specs.declared.Refusal.the-variants as refusal
-use Rattle.survey.specs.Cell.{isCellOf}
-use Rattle.survey.specs.Metres.{sound, findCoordinate, eastward, northward, findLength, inCells, toldInCells}
+use Rattle.survey.specs.Cell.{isCellOf, findCell}
+use Rattle.survey.specs.Metres.{sound, eastward, northward, findLength, inCells, toldInCells}
 use Rattle.survey.specs.declared.Found.the-variants.{At, NoCell}
 use Rattle.survey.specs.declared.Survey.{Survey}
 use Rattle.survey.specs.declared.Metres.{Metres}
@@ -57,19 +57,12 @@ Hold [] = T true
 Hold (r ∷ rows) = (toldInCells (inCells (r .survey) (r .figure)) ≡ r .answer) × Hold rows
 
 -- the cell k is the one, where its two comparisons compute to true
-at : (position origin size : Float) (k : ℤ) → T (coordinate k) → T (isCellOf (div binary64 (sub binary64 position origin) size) k)
-    → findCoordinate position origin size ≡ At k
-at position origin size k l t = sym (cell-only (div binary64 (sub binary64 position origin) size) (At k) (l, t))
+is : (q : Float) (k : ℤ) → T (coordinate k) → T (isCellOf q k) → findCell q ≡ At k
+is q k l t = sym (cell-only q (At k) (l, t))
 
-long : (length size : Float) (k : ℤ) → T (coordinate k) → T (isCellOf (div binary64 length size) k) → findLength length size ≡ At k
-long length size k l t = sym (cell-only (div binary64 length size) (At k) (l, t))
-
--- and there is none, where the float is not below 16,384
-far : (position origin size : Float) → lt (div binary64 (sub binary64 position origin) size) (ofInt binary64 (pos 16384)) ≡ false
-    → findCoordinate position origin size ≡ NoCell
-far position origin size e =
-    let q = div binary64 (sub binary64 position origin) size in
-    sym (found-none q (none-high q (ofInt binary64 (pos 16384)) refl e))
+-- and there is none, where q is not below 16,384
+far : (q : Float) → lt q (ofInt binary64 (pos 16384)) ≡ false → findCell q ≡ NoCell
+far q e = sym (found-none q (none-high q (ofInt binary64 (pos 16384)) refl e))
 
 -- a sound survey's reply, from the cells of the fields
 module _ (s : Survey) (ok : sound s ≡ true) where
@@ -99,15 +92,16 @@ examples =
     let zero = metres (pos 0) in
     let size = metres (pos 25) in
     let home = square zero size in
-    let origin = at minusZero zero size (pos 0) tt tt in
-    let own = at km km size (pos 0) tt tt in
-    let right = at (half (pos 2125)) km size (pos 2) tt tt in
-    let left = at (metres (pos 999)) km size (negsuc 0) tt tt in
+    let over : Float → Float → Float = λ position origin. div binary64 (sub binary64 position origin) size in
+    let origin = is (over minusZero zero) (pos 0) tt tt in
+    let own = is (over km km) (pos 0) tt tt in
+    let right = is (over (half (pos 2125)) km) (pos 2) tt tt in
+    let left = is (over (metres (pos 999)) km) (negsuc 0) tt tt in
     let line = line-told (square km size) refl (half (pos 2125)) km (metres (pos 999)) km (pos 2) (pos 0) (negsuc 0) (pos 0) right own left own in
-    let two = long (metres (pos 60)) size (pos 2) tt tt in
+    let two = is (div binary64 (metres (pos 60)) size) (pos 2) tt tt in
     let circle = circle-told home refl minusZero minusZero (metres (pos 60)) (pos 0) (pos 0) (pos 2) origin origin two in
-    let three = long (metres (pos 75)) size (pos 3) tt tt in
-    let below = long (metres (negsuc 0)) size (negsuc 0) tt tt in
+    let three = is (div binary64 (metres (pos 75)) size) (pos 3) tt tt in
+    let below = is (div binary64 (metres (negsuc 0)) size) (negsuc 0) tt tt in
     let ellipse = ellipse-told home refl minusZero minusZero (metres (pos 75)) (metres (negsuc 0)) (pos 0) (pos 0) (pos 3) (negsuc 0) origin origin three below in
-    let outside = circle-refused home refl (metres (pos 409600)) minusZero (metres (pos 60)) (far (metres (pos 409600)) zero size refl) in
+    let outside = circle-refused home refl (metres (pos 409600)) minusZero (metres (pos 60)) (far (over (metres (pos 409600)) zero) refl) in
     (line, (circle, (ellipse, (outside, (refl, tt)))))

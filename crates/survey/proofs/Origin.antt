@@ -74,7 +74,7 @@ unfolding coordinate isCellOf ofInt le lt
 zero-cell x (zero true) = sym (cell-only (fin true 0 (pos 0)) (At (pos 0)) (tt, tt))
 zero-cell x (zero false) = sym (cell-only (fin false 0 (pos 0)) (At (pos 0)) (tt, tt))
 
--- x - x is zero exactly where x is finite
+-- zero passes the code's test, so x - x passes it exactly where x is finite
 zero-eq : (x : Float) → Zero x → eq x (ofBits binary64 0) ≡ true
 unfolding eq ofBits
 zero-eq x (zero true) = refl
@@ -86,10 +86,11 @@ self-test (inf true) = unfold eq sub ofBits in refl
 self-test (inf false) = unfold eq sub ofBits in refl
 self-test (fin s m e) = zero-eq (sub binary64 (fin s m e) (fin s m e)) (sub-zero (fin s m e) (fin s m e) (unfold eq in eq-of s (m * up e * down e) s (m * up e * down e) refl) tt)
 
--- A position equal to its origin has cell 0: of any position that compares equal to it, −0.0 and 0.0 among them, and in every sound survey.
+-- a position that compares equal to a finite origin, −0.0 to 0.0 too, by a finite size above zero
 origin-cell : (p o size : Float) → T (eq p o) → T (finite o) → T (finite size) → T (lt (ofInt binary64 (pos 0)) size) → findCoordinate p o size ≡ At (pos 0)
 origin-cell p o size t f g l = zero-cell (div binary64 (sub binary64 p o) size) (div-zero (sub binary64 p o) size (sub-zero p o t f) g l)
 
+-- A position equal to its origin has cell 0, in every sound survey.
 pub origin-east : (s : Survey) (p : Float) → T (sound s) → T (eq p (s .east)) → eastward s p ≡ At (pos 0)
 unfolding sound
 origin-east s p k t =

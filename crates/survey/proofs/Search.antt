@@ -1,4 +1,4 @@
--- The search for a cell: what each turn knows, and that a float has one cell at most.
+-- The search for a cell: what each turn knows of the edges about q, the whole numbers from −16,384 to 16,384.
 use mathlib.Core.Path.{_≡_, sym, ap, _∙_, subst}
 use mathlib.Core.Bool.{true, false, not}
 use Prim.Native.Nat.{ℕ, _+_, _≤_, _<_}
@@ -13,7 +13,7 @@ use Rattle.survey.specs.Cell.{fromLeast}
 use Rattle.survey.specs.Inner.{Between}
 use Rattle.survey.proofs.Order.{Small, le-lower, lt-not}
 
--- an edge, a whole number from −16,384 to 16,384, is exact as a float
+-- an edge is exact as a float
 edge-small : (j : ℕ) → j ≤ 32768 → Small (fromLeast j)
 edge-small j h = simp parts (omega arith)
 
@@ -22,7 +22,7 @@ pub next-edge : (j : ℕ) → fromLeast j +ℤ pos 1 ≡ fromLeast (j + 1)
 next-edge j = to-≡ℤ (fromLeast j +ℤ pos 1) (fromLeast (j + 1)) (simp parts (omega arith))
 
 -- a lower edge is at most q too
-pub lower-edge : (i j : ℕ) (q : Float) → i ≤ j → j ≤ 32768 → T (le (ofInt binary64 (fromLeast j)) q) → T (le (ofInt binary64 (fromLeast i)) q)
+lower-edge : (i j : ℕ) (q : Float) → i ≤ j → j ≤ 32768 → T (le (ofInt binary64 (fromLeast j)) q) → T (le (ofInt binary64 (fromLeast i)) q)
 lower-edge i j q h l t = le-lower (fromLeast i) (fromLeast j) q (edge-small i (omega arith)) (edge-small j l) (simp parts (omega arith)) t
 
 -- the middle of the search is a new lower end, or a new upper end
