@@ -40,19 +40,21 @@ abbrev pub withCell : Found → (ℤ → InCells) → InCells
 withCell (found.At k) next = next k
 withCell found.NoCell next = Refused refusal.NoCell
 
--- the figures of the cells of their fields
+-- the cell of an x and a y
 abbrev pub cell : ℤ → ℤ → Cell
 cell x y = record { x = x; y = y }
 
+-- the line, the circle and the ellipse of the cells of their fields
 abbrev pub lineOf : Found → Found → Found → Found → InCells
-lineOf a b c d = withCell a (λ x0. withCell b (λ y0. withCell c (λ x1. withCell d (λ y1. Line (cell x0 y0) (cell x1 y1)))))
+lineOf x0 y0 x1 y1 = withCell x0 (λ x0. withCell y0 (λ y0. withCell x1 (λ x1. withCell y1 (λ y1. Line (cell x0 y0) (cell x1 y1)))))
 
 abbrev pub circleOf : Found → Found → Found → InCells
-circleOf a b c = withCell a (λ x. withCell b (λ y. withCell c (λ r. Circle (cell x y) r)))
+circleOf x y r = withCell x (λ x. withCell y (λ y. withCell r (λ r. Circle (cell x y) r)))
 
 abbrev pub ellipseOf : Found → Found → Found → Found → InCells
-ellipseOf a b c d = withCell a (λ x. withCell b (λ y. withCell c (λ m. withCell d (λ n. Ellipse (cell x y) m n))))
+ellipseOf x y a b = withCell x (λ x. withCell y (λ y. withCell a (λ a. withCell b (λ b. Ellipse (cell x y) a b))))
 
+-- A figure in metres is a line, a circle or an ellipse with its float fields in the order of the record.
 abbrev pub figureIn : Survey → Metres → InCells
 figureIn s (metres.Line x0 y0 x1 y1) = lineOf (eastward s x0) (northward s y0) (eastward s x1) (northward s y1)
 figureIn s (metres.Circle x y r) = circleOf (eastward s x) (northward s y) (findLength r (s .size))

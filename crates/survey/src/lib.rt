@@ -119,57 +119,57 @@ pub fn sound(survey: Survey) -> bool
 }
 
 // The line between two ends, if each of its fields has a cell.
-fn line_of(a: Found, b: Found, c: Found, d: Found) -> InCells
-    ensures { λ v. ⌜ v ≡ lineOf a b c d ⌝ }
+fn line_of(x0: Found, y0: Found, x1: Found, y1: Found) -> InCells
+    ensures { λ v. ⌜ v ≡ lineOf x0 y0 x1 y1 ⌝ }
 {
-    let Found::At(x0) = a else {
+    let Found::At(x0) = x0 else {
         return InCells::Refused(Refusal::NoCell);
     };
-    let Found::At(y0) = b else {
+    let Found::At(y0) = y0 else {
         return InCells::Refused(Refusal::NoCell);
     };
-    let Found::At(x1) = c else {
+    let Found::At(x1) = x1 else {
         return InCells::Refused(Refusal::NoCell);
     };
-    let Found::At(y1) = d else {
+    let Found::At(y1) = y1 else {
         return InCells::Refused(Refusal::NoCell);
     };
     InCells::Line(Cell { x: x0, y: y0 }, Cell { x: x1, y: y1 })
 }
 
 // The circle of a centre and a radius.
-fn circle_of(a: Found, b: Found, c: Found) -> InCells
-    ensures { λ v. ⌜ v ≡ circleOf a b c ⌝ }
+fn circle_of(x: Found, y: Found, r: Found) -> InCells
+    ensures { λ v. ⌜ v ≡ circleOf x y r ⌝ }
 {
-    let Found::At(x) = a else {
+    let Found::At(x) = x else {
         return InCells::Refused(Refusal::NoCell);
     };
-    let Found::At(y) = b else {
+    let Found::At(y) = y else {
         return InCells::Refused(Refusal::NoCell);
     };
-    let Found::At(r) = c else {
+    let Found::At(r) = r else {
         return InCells::Refused(Refusal::NoCell);
     };
     InCells::Circle(Cell { x, y }, r)
 }
 
 // The ellipse of a centre and two semi-axes.
-fn ellipse_of(a: Found, b: Found, c: Found, d: Found) -> InCells
-    ensures { λ v. ⌜ v ≡ ellipseOf a b c d ⌝ }
+fn ellipse_of(x: Found, y: Found, a: Found, b: Found) -> InCells
+    ensures { λ v. ⌜ v ≡ ellipseOf x y a b ⌝ }
 {
-    let Found::At(x) = a else {
+    let Found::At(x) = x else {
         return InCells::Refused(Refusal::NoCell);
     };
-    let Found::At(y) = b else {
+    let Found::At(y) = y else {
         return InCells::Refused(Refusal::NoCell);
     };
-    let Found::At(m) = c else {
+    let Found::At(a) = a else {
         return InCells::Refused(Refusal::NoCell);
     };
-    let Found::At(n) = d else {
+    let Found::At(b) = b else {
         return InCells::Refused(Refusal::NoCell);
     };
-    InCells::Ellipse(Cell { x, y }, m, n)
+    InCells::Ellipse(Cell { x, y }, a, b)
 }
 
 // A figure in metres as one in cells: x with the east origin and y with the north.
