@@ -1,0 +1,8 @@
+pub mod Order
+pub mod Search
+pub mod Cells
+pub mod Within
+pub mod Origin
+pub mod Unique
+mod Figures
+pub mod Examples
