@@ -1,0 +1,5 @@
+mod Words
+mod Rows
+mod Table
+mod Frames
+pub mod Told

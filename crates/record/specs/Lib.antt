@@ -1,0 +1,2 @@
+pub mod Layout
+pub mod Reading
