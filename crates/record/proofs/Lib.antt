@@ -2,4 +2,5 @@ mod Words
 mod Rows
 mod Table
 mod Frames
+mod Found
 pub mod Told

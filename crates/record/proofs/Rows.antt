@@ -12,8 +12,8 @@ use Rattle.sheet.specs.Sheet.{inLimits}
 use Rattle.sheet.specs.declared.Cell.{Cell}
 use Rattle.sheet.specs.declared.Refusal.{Refusal}
 use Rattle.sheet.specs.declared.Refusal.the-variants.{Coordinate, Radius, Pieces, Length}
-use Rattle.record.specs.Layout.{Row, axis, wordAt, within, cellAt, lineRow, circleRow, ellipseRow, curveRow}
-use Rattle.record.specs.Reading.{Found, unlessAt, valuesFrom, withinFrom, rowFound, readOf}
+use Rattle.record.specs.Layout.{Row, wordAt, isAxis, cellAt, lineRow, circleRow, ellipseRow, curveRow}
+use Rattle.record.specs.Reading.{Found, unlessAt, valuesFrom, limitedFrom, rowFound, readOf}
 use Rattle.record.specs.declared.types.Figure.the-variants.{Line, Circle, Ellipse, Curve}
 use Rattle.record.specs.declared.types.Read.the-variants.{Record, Refused}
 
@@ -39,7 +39,7 @@ module _ (p : List ℕ) (at next : ℕ) where
       (cond (inLimits b)
       (Record (record { offset = at; next = next; ink = getD p 0 0; figure = Line a b }))
       (Refused Coordinate at)) (Refused Coordinate at)
-  unfolding rowFound withinFrom valuesFrom lineRow inLimits
+  unfolding rowFound limitedFrom valuesFrom lineRow inLimits
   line-found a b h e f = rw (e, f) (simp (eq-eqb (2 + length p) 11 (omega arith), both, read-unless))
 
   pub circle-found : (centre : Cell) (r : ℕ) → length p ≡ 7 → centre ≡ cellAt p 1 → r ≡ wordAt p 5
@@ -48,17 +48,17 @@ module _ (p : List ℕ) (at next : ℕ) where
       (cond (leb r 16383)
       (Record (record { offset = at; next = next; ink = getD p 0 0; figure = Circle centre r }))
       (Refused Radius at)) (Refused Coordinate at)
-  unfolding rowFound withinFrom valuesFrom circleRow inLimits
+  unfolding rowFound limitedFrom valuesFrom circleRow inLimits
   circle-found centre r h e f = rw (e, f) (simp (eq-eqb (2 + length p) 9 (omega arith), both, read-unless, leb·zero))
 
   pub ellipse-found : (centre : Cell) (a b : ℕ) → length p ≡ 9 → centre ≡ cellAt p 1 → a ≡ wordAt p 5 → b ≡ wordAt p 7
       → readOf (rowFound ellipseRow p at next) ≡
       cond (inLimits centre)
-      (cond (within axis (pos a))
-      (cond (within axis (pos b))
+      (cond (isAxis (pos a))
+      (cond (isAxis (pos b))
       (Record (record { offset = at; next = next; ink = getD p 0 0; figure = Ellipse centre a b }))
       (Refused Radius at)) (Refused Radius at)) (Refused Coordinate at)
-  unfolding rowFound withinFrom valuesFrom ellipseRow inLimits
+  unfolding rowFound limitedFrom valuesFrom ellipseRow inLimits
   ellipse-found centre a b h e f g = rw (e, f, g) (simp (eq-eqb (2 + length p) 11 (omega arith), both, read-unless))
 
   pub curve-found : (p0 p1 p2 : Cell) (s : ℕ) → length p ≡ 14 → p0 ≡ cellAt p 1 → p1 ≡ cellAt p 5 → p2 ≡ cellAt p 9 → s ≡ getD p 13 0
@@ -69,5 +69,5 @@ module _ (p : List ℕ) (at next : ℕ) where
       (cond (leb s 6)
       (Record (record { offset = at; next = next; ink = getD p 0 0; figure = Curve p0 p1 p2 s }))
       (Refused Pieces at)) (Refused Coordinate at)) (Refused Coordinate at)) (Refused Coordinate at)
-  unfolding rowFound withinFrom valuesFrom curveRow inLimits
+  unfolding rowFound limitedFrom valuesFrom curveRow inLimits
   curve-found p0 p1 p2 s h e f g k = rw (e, f, g, k) (simp (eq-eqb (2 + length p) 16 (omega arith), both, read-unless, leb·zero))

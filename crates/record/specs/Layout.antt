@@ -1,15 +1,12 @@
 -- Document 01, "Record file": the table of kinds, and how the fields of a payload are held.
 use Prim.Native.Nat.{ℕ, _+_, _*_}
 use mathlib.Core.List.{List, [], _∷_}
-use mathlib.Core.Bool.{Bool, true, cond, _&&_}
+use mathlib.Core.Bool.{Bool, cond, _&&_}
 use lib.Dec.{ltb}
 use lib.IntN.{ℤ, pos, natAbs, _-ℤ_}
 use lib.ListN.{getD}
 use lib.Signed.{leZ}
-use Rattle.sheet.specs.Sheet as sheet
 use Rattle.sheet.specs.declared.Cell.{Cell}
-use Rattle.sheet.specs.declared.Refusal.{Refusal}
-use Rattle.sheet.specs.declared.Refusal.the-variants as refusals
 use Rattle.record.specs.declared.types.Figure.{Figure}
 use Rattle.record.specs.declared.types.Figure.the-variants.{Line, Circle, Ellipse, Curve}
 
@@ -43,21 +40,15 @@ valueAt radius s k = pos (wordAt s k)
 valueAt axis s k = pos (wordAt s k)
 valueAt pieces s k = pos (getD s k 0)
 
--- Coordinates are −16,384 to 16,383. Circle radius is 0 to 16,383; each ellipse semi-axis is 1 to 16,383. s from 0 to 6.
-abbrev pub within : Field → ℤ → Bool
-within ink z = true
-within coordinate z = sheet.coordinate z
-within radius z = leZ (pos 0) z && leZ z (pos 16383)
-within axis z = leZ (pos 1) z && leZ z (pos 16383)
-within pieces z = leZ (pos 0) z && leZ z (pos 6)
+-- Circle radius is 0 to 16,383; each ellipse semi-axis is 1 to 16,383; s from 0 to 6.
+abbrev pub isRadius : ℤ → Bool
+isRadius z = leZ (pos 0) z && leZ z (pos 16383)
 
--- what a value outside its limits is refused as; an ink never is
-abbrev pub refusal : Field → Refusal
-refusal ink = refusals.Length
-refusal coordinate = refusals.Coordinate
-refusal radius = refusals.Radius
-refusal axis = refusals.Radius
-refusal pieces = refusals.Pieces
+abbrev pub isAxis : ℤ → Bool
+isAxis z = leZ (pos 1) z && leZ z (pos 16383)
+
+abbrev pub isPieces : ℤ → Bool
+isPieces z = leZ (pos 0) z && leZ z (pos 6)
 
 -- the cell of a value and the next, and a value that is no coordinate
 abbrev pub cellIn : List ℤ → ℕ → Cell
@@ -74,17 +65,42 @@ pub record Row : Type 0 where
   pub figure : List ℤ → Figure
 
 unfoldable pub lineRow : Row
-lineRow = record { kind = 1; length = 11; payload = ink ∷ coordinate ∷ coordinate ∷ coordinate ∷ coordinate ∷ []; figure = λ (v : List ℤ). Line (cellIn v 1) (cellIn v 3) }
+lineRow =
+    record {
+      kind = 1;
+      length = 11;
+      payload = ink ∷ coordinate ∷ coordinate ∷ coordinate ∷ coordinate ∷ [];
+      figure = λ (v : List ℤ). Line (cellIn v 1) (cellIn v 3);
+    }
 
 unfoldable pub circleRow : Row
-circleRow = record { kind = 2; length = 9; payload = ink ∷ coordinate ∷ coordinate ∷ radius ∷ []; figure = λ (v : List ℤ). Circle (cellIn v 1) (numberIn v 3) }
+circleRow =
+    record {
+      kind = 2;
+      length = 9;
+      payload = ink ∷ coordinate ∷ coordinate ∷ radius ∷ [];
+      figure = λ (v : List ℤ). Circle (cellIn v 1) (numberIn v 3);
+    }
 
 unfoldable pub ellipseRow : Row
-ellipseRow = record { kind = 3; length = 11; payload = ink ∷ coordinate ∷ coordinate ∷ axis ∷ axis ∷ []; figure = λ (v : List ℤ). Ellipse (cellIn v 1) (numberIn v 3) (numberIn v 4) }
+ellipseRow =
+    record {
+      kind = 3;
+      length = 11;
+      payload = ink ∷ coordinate ∷ coordinate ∷ axis ∷ axis ∷ [];
+      figure = λ (v : List ℤ). Ellipse (cellIn v 1) (numberIn v 3) (numberIn v 4);
+    }
 
 unfoldable pub curveRow : Row
-curveRow = record { kind = 4; length = 16; payload = ink ∷ coordinate ∷ coordinate ∷ coordinate ∷ coordinate ∷ coordinate ∷ coordinate ∷ pieces ∷ []; figure = λ (v : List ℤ). Curve (cellIn v 1) (cellIn v 3) (cellIn v 5) (numberIn v 7) }
+curveRow =
+    record {
+      kind = 4;
+      length = 16;
+      payload = ink ∷ coordinate ∷ coordinate ∷ coordinate ∷ coordinate ∷ coordinate ∷ coordinate ∷ pieces ∷ [];
+      figure = λ (v : List ℤ). Curve (cellIn v 1) (cellIn v 3) (cellIn v 5) (numberIn v 7);
+    }
 
+-- the table
 unfoldable pub table : List Row
 table = lineRow ∷ circleRow ∷ ellipseRow ∷ curveRow ∷ []
 

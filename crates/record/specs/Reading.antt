@@ -5,11 +5,12 @@ use mathlib.Core.Bool.{Bool, cond}
 use lib.Dec.{leb, eqb}
 use lib.IntN.{ℤ, pos}
 use lib.ListN.{length, take, drop}
+use Rattle.sheet.specs.Sheet as sheet
 use Rattle.sheet.specs.Reply.{Answer, number, done}
 use Rattle.sheet.specs.declared.Cell.{Cell}
 use Rattle.sheet.specs.declared.Refusal.{Refusal}
-use Rattle.sheet.specs.declared.Refusal.the-variants.{Short, Kind, Length}
-use Rattle.record.specs.Layout.{Field, Row, wordAt, width, valueAt, within, refusal, numberIn, table}
+use Rattle.sheet.specs.declared.Refusal.the-variants.{Coordinate, Radius, Pieces, Short, Kind, Length}
+use Rattle.record.specs.Layout.{Field, ink, coordinate, radius, axis, pieces, Row, wordAt, width, valueAt, isRadius, isAxis, isPieces, numberIn, table}
 use Rattle.record.specs.declared.types.Figure.{Figure}
 use Rattle.record.specs.declared.types.Figure.the-variants.{Line, Circle, Ellipse, Curve}
 use Rattle.record.specs.declared.types.Read.{Read}
@@ -30,16 +31,24 @@ unfoldable pub valuesFrom : List Field → List ℕ → ℕ → List ℤ
 valuesFrom [] p k = []
 valuesFrom (f ∷ fs) p k = valueAt f p k ∷ valuesFrom fs p (k + width f)
 
--- each field in turn is within its limits
-unfoldable pub withinFrom : List Field → List ℕ → ℕ → ℕ → Found → Found
-withinFrom [] p k at next = next
-withinFrom (f ∷ fs) p k at next = unlessAt (within f (valueAt f p k)) (refusal f) at (withinFrom fs p (k + width f) at next)
+-- a field within its limits; else 2 for a coordinate, 3 for a radius or semi-axis, 4 for s
+abbrev pub limited : Field → ℤ → ℕ → Found → Found
+limited ink z at next = next
+limited coordinate z at next = unlessAt (sheet.coordinate z) Coordinate at next
+limited radius z at next = unlessAt (isRadius z) Radius at next
+limited axis z at next = unlessAt (isAxis z) Radius at next
+limited pieces z at next = unlessAt (isPieces z) Pieces at next
+
+-- each field from k on in turn
+unfoldable pub limitedFrom : List Field → List ℕ → ℕ → ℕ → Found → Found
+limitedFrom [] p k at next = next
+limitedFrom (f ∷ fs) p k at next = limited f (valueAt f p k) at (limitedFrom fs p (k + width f) at next)
 
 -- a payload of a row's kind: 10 unless it has the row's length, then what its fields are refused as
 unfoldable pub rowFound : Row → List ℕ → ℕ → ℕ → Found
 rowFound row p at next =
     unlessAt (eqb (2 + length p) (row .length)) Length at
-    (withinFrom (row .payload) p 0 at (found at next row (valuesFrom (row .payload) p 0)))
+    (limitedFrom (row .payload) p 0 at (found at next row (valuesFrom (row .payload) p 0)))
 
 -- a payload of a kind: 9 unless a row of the table has it
 unfoldable pub kindFound : List Row → ℕ → List ℕ → ℕ → ℕ → Found

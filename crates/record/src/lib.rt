@@ -11,7 +11,7 @@ ghost use mathlib.Core.Path.{_≡_};
 ghost use Prim.Native.Nat.{ℕ, _+_, _*_, _<_};
 ghost use lib.IntN.{pos};
 ghost use lib.ListN.{length};
-ghost use Rattle.record.specs.Layout.{axis, wordAt, signed, within, cellAt, lineRow, circleRow, ellipseRow, curveRow, table};
+ghost use Rattle.record.specs.Layout.{wordAt, signed, isAxis, cellAt, lineRow, circleRow, ellipseRow, curveRow, table};
 ghost use Rattle.record.specs.Reading.{rowFound, kindFound, readOf, readAt, readAnswer, toldRead};
 
 fn wide(x: u8) -> u32
@@ -59,7 +59,7 @@ fn cell_at(bytes: &[u8], k: usize) -> Cell
 
 // Whether a number is within the limits of a semi-axis.
 fn is_axis(n: u32) -> bool
-    ensures { λ r. ⌜ r ≡ within axis (pos n) ⌝ }
+    ensures { λ r. ⌜ r ≡ isAxis (pos n) ⌝ }
 {
     if n < 1 {
         return false;
