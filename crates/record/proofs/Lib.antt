@@ -4,3 +4,6 @@ mod Table
 mod Frames
 mod Found
 pub mod Told
+pub mod Past
+pub mod Onward
+mod Counting

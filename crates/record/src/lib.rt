@@ -13,6 +13,7 @@ ghost use lib.IntN.{pos};
 ghost use lib.ListN.{length};
 ghost use Rattle.record.specs.Layout.{wordAt, signed, isAxis, cellAt, lineRow, circleRow, ellipseRow, curveRow, table};
 ghost use Rattle.record.specs.Reading.{rowFound, kindFound, readOf, readAt, readAnswer, toldRead};
+ghost use Rattle.record.specs.File.{closedBy, fileAnswer, toldChecked};
 
 fn wide(x: u8) -> u32
     ensures { λ r. ⌜ r ≡ x ⌝ }
@@ -210,4 +211,31 @@ pub fn read(file: &[u8], at: usize) -> Read
     let kind = word_at(file, at + 2);
     let end = at + 2 + length;
     decode(kind, &file[at + 4..end], at, end)
+}
+
+// What a read that is no record makes of the file, after this many records.
+fn closed(answer: Read, count: usize) -> Checked
+    ensures { λ r. ⌜ r ≡ closedBy answer count ⌝ }
+{
+    match answer {
+        Read::Record(_) => Checked::Done(count),
+        Read::End => Checked::Done(count),
+        Read::Refused(refusal, offset) => Checked::Refused(refusal, offset),
+    }
+}
+
+// Reads the file to its end: its number of records, or the first refusal with its offset.
+pub fn check(file: &[u8]) -> Checked
+    ensures { λ r. ⌜ toldChecked r ≡ fileAnswer (now (file .entry)) ⌝ }
+{
+    let mut count: usize = 0;
+    let mut at: usize = 0;
+    loop {
+        let answer = read(file, at);
+        let Read::Record(record) = answer else {
+            return closed(answer, count);
+        };
+        count += 1;
+        at = record.next;
+    }
 }
