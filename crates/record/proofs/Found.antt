@@ -13,9 +13,17 @@ use Rattle.sheet.specs.declared.Refusal.{Refusal}
 use Rattle.record.specs.Layout.{Field, ink, coordinate, radius, axis, pieces, Row, wordAt, width, valueAt, isRadius, isAxis, isPieces, lineRow, circleRow, ellipseRow, curveRow, table}
 use Rattle.record.specs.Reading.{Found, found, end, refused, unlessAt, valuesFrom, limited, limitedFrom, rowFound, kindFound, payloadAt, foundAt}
 
--- the record of a payload whose fields are all within their limits
-abbrev pub made : Row → List ℕ → ℕ → ℕ → Found
-made row p at next = found at next row (valuesFrom (row .payload) p 0)
+-- a field's value within its limits, and those of fields that follow each other from k on
+abbrev pub Limited : Field → ℤ → Type 0
+Limited ink z = Unit {0}
+Limited coordinate z = sheet.coordinate z ≡ true
+Limited radius z = isRadius z ≡ true
+Limited axis z = isAxis z ≡ true
+Limited pieces z = isPieces z ≡ true
+
+unfoldable pub LimitedFrom : List Field → List ℕ → ℕ → Type 0
+LimitedFrom [] p k = Unit {0}
+LimitedFrom (g ∷ fs) p k = Limited g (valueAt g p k) × LimitedFrom fs p (k + width g)
 
 module _ (P : Found → Type 0) (no : (r : Refusal) (at : ℕ) → P (refused r at)) where
   by-test : (t : Bool) (f g : Found) → (t ≡ true → P f) → (t ≡ false → P g) → P (cond t f g)
@@ -25,25 +33,28 @@ module _ (P : Found → Type 0) (no : (r : Refusal) (at : ℕ) → P (refused r 
   passing : (t : Bool) (r : Refusal) (at : ℕ) (f : Found) → (t ≡ true → P f) → P (unlessAt t r at f)
   passing t r at f h = by-test t f (refused r at) h (λ e. no r at)
 
-  limited-has : (g : Field) (z : ℤ) (at : ℕ) (f : Found) → P f → P (limited g z at f)
-  limited-has ink z at f h = h
-  limited-has coordinate z at f h = passing (sheet.coordinate z) _ at f (λ e. h)
-  limited-has radius z at f h = passing (isRadius z) _ at f (λ e. h)
-  limited-has axis z at f h = passing (isAxis z) _ at f (λ e. h)
-  limited-has pieces z at f h = passing (isPieces z) _ at f (λ e. h)
+  limited-has : (g : Field) (z : ℤ) (at : ℕ) (f : Found) → (Limited g z → P f) → P (limited g z at f)
+  limited-has ink z at f h = h tt
+  limited-has coordinate z at f h = passing (sheet.coordinate z) _ at f h
+  limited-has radius z at f h = passing (isRadius z) _ at f h
+  limited-has axis z at f h = passing (isAxis z) _ at f h
+  limited-has pieces z at f h = passing (isPieces z) _ at f h
 
-  fields-have : (fs : List Field) (p : List ℕ) (k at : ℕ) (f : Found) → P f → P (limitedFrom fs p k at f)
-  unfolding limitedFrom
-  fields-have [] p k at f h = h
-  fields-have (g ∷ fs) p k at f h = limited-has g (valueAt g p k) at _ (fields-have fs p (k + width g) at f h)
+  fields-have : (fs : List Field) (p : List ℕ) (k at : ℕ) (f : Found) → (LimitedFrom fs p k → P f) → P (limitedFrom fs p k at f)
+  unfolding limitedFrom LimitedFrom
+  fields-have [] p k at f h = h tt
+  fields-have (g ∷ fs) p k at f h = limited-has g (valueAt g p k) at _ (λ a. fields-have fs p (k + width g) at f (λ b. h (a, b)))
 
   module _ (p : List ℕ) (at next : ℕ) where
-    row-has : (row : Row) → P (made row p at next) → P (rowFound row p at next)
+    -- a record of a row, where its fields are within their limits
+    abbrev pub Made : Row → Type 0
+    Made row = LimitedFrom (row .payload) p 0 → P (found at next row (valuesFrom (row .payload) p 0))
+
+    row-has : (row : Row) → Made row → P (rowFound row p at next)
     unfolding rowFound
     row-has row h = passing (eqb (2 + length p) (row .length)) _ at _ (λ e. fields-have (row .payload) p 0 at _ h)
 
-    pub kind-has : (kind : ℕ) → P (made lineRow p at next) → P (made circleRow p at next) → P (made ellipseRow p at next) → P (made curveRow p at next)
-        → P (kindFound table kind p at next)
+    pub kind-has : (kind : ℕ) → Made lineRow → Made circleRow → Made ellipseRow → Made curveRow → P (kindFound table kind p at next)
     unfolding kindFound table
     kind-has kind a b c d =
         by-test (eqb kind (lineRow .kind)) _ _ (λ e. row-has lineRow a)

@@ -5,5 +5,8 @@ mod Frames
 mod Found
 pub mod Told
 pub mod Past
+pub mod Sound
 pub mod Onward
 mod Counting
+pub mod Unique
+pub mod Examples

@@ -8,7 +8,7 @@ use Rattle.record.specs.Reading.{payloadAt, readOf, readAt}
 use Rattle.record.specs.declared.types.Record.{Record}
 use Rattle.record.specs.declared.types.Read.{Read}
 use Rattle.record.specs.declared.types.Read.the-variants as read
-use Rattle.record.proofs.Found.{made, kind-has, found-has}
+use Rattle.record.proofs.Found.{Made, kind-has, found-has}
 
 pub record Past (s : List ℕ) (at : ℕ) (r : Record) : Type 0 where
   pub here : r .offset ≡ at
@@ -25,7 +25,8 @@ unfolding readAt
 if-record s at =
     found-has (λ f. IfRecord s at (readOf f)) (λ q o. tt) s at tt
     (λ a b.
-    let p : (row : Row) → IfRecord s at (readOf (made row (payloadAt s at) at (at + 2 + wordAt s at))) = λ row. record { here = refl; on = a; inside = b } in
+    let p : (row : Row) → Made (λ f. IfRecord s at (readOf f)) (λ q o. tt) (payloadAt s at) at (at + 2 + wordAt s at) row =
+    λ row l. record { here = refl; on = a; inside = b } in
     kind-has (λ f. IfRecord s at (readOf f)) (λ q o. tt) _ _ _ _ (p lineRow) (p circleRow) (p ellipseRow) (p curveRow))
 
 pub past : (s : List ℕ) (at : ℕ) (r : Record) → read.Record r ≡ readAt s at → Past s at r

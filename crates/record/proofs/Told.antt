@@ -12,7 +12,7 @@ Tells f = toldRead (readOf f) ≡ answerOf f
 
 pub told-read : (s : List ℕ) (at : ℕ) → toldRead (readAt s at) ≡ readAnswer s at
 unfolding readAt readAnswer valuesFrom lineRow circleRow ellipseRow curveRow
-told-read s at = found-has Tells (λ r o. refl) s at refl (λ a b. kind-has Tells (λ r o. refl) _ _ _ _ refl refl refl refl)
+told-read s at = found-has Tells (λ r o. refl) s at refl (λ a b. kind-has Tells (λ r o. refl) _ _ _ _ (λ l. refl) (λ l. refl) (λ l. refl) (λ l. refl))
 
 -- both promises of a read
 pub answers : (s : List ℕ) (at : ℕ) (r : Read) → r ≡ readAt s at → (toldRead r ≡ readAnswer s at) × (r ≡ readAt s at)
