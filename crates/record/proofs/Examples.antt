@@ -1,13 +1,15 @@
 -- Document 01's examples of records: files, what is read at their first byte, and what the whole file answers.
-use Prim.Native.Nat.{ℕ, _+_}
+use Prim.Native.Nat.{ℕ, _+_, _-_, _≤_}
 use mathlib.Core.Path.{_≡_, refl}
 use mathlib.Core.List.{List, [], _∷_, map}
+use native.Mathlib.Omega.{arith}
 use lib.IntN.{pos}
+use lib.ListN.{length, length-take, length-drop}
 use Rattle.sheet.specs.Reply.{Answer, done}
 use Rattle.sheet.specs.Sheet as sheet
 use Rattle.sheet.specs.declared.Refusal.the-variants.{Short, Kind, Length}
-use Rattle.record.specs.Layout.{Field, Row, width, signed, lineRow, circleRow, ellipseRow, curveRow, table}
-use Rattle.record.specs.Reading.{refuseAt, valuesFrom, limitedFrom, rowFound, kindFound, foundAt, readAt, readAnswer}
+use Rattle.record.specs.Layout.{Field, Row, wordAt, width, signed, lineRow, circleRow, ellipseRow, curveRow, table}
+use Rattle.record.specs.Reading.{refuseAt, valuesFrom, limitedFrom, rowFound, kindFound, payloadAt, foundAt, readAt, readAnswer}
 use Rattle.record.specs.File.{readIn, readFrom, readAll, fileAnswer}
 
 pub record Example : Type 0 where
@@ -47,3 +49,7 @@ widths (f ∷ fs) = width f + widths fs
 pub lengths-hold : map (λ (row : Row). row .length) table ≡ map (λ (row : Row). 2 + widths (row .payload)) table
 unfolding widths table lineRow circleRow ellipseRow curveRow
 lengths-hold = refl
+
+-- and so does the length of a record that the file has whole
+pub length-holds : (s : List ℕ) (at : ℕ) → 2 ≤ length s - at → 2 ≤ wordAt s at → wordAt s at ≤ length s - at - 2 → 2 + length (payloadAt s at) ≡ wordAt s at
+length-holds s at f g h = simp (length-take, length-drop) (omega arith)

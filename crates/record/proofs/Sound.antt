@@ -1,14 +1,12 @@
 -- The figure of a record that was read is within the limits: no drawing refuses it for its fields.
-use Prim.Native.Nat.{ℕ, _+_, _≤_}
-use mathlib.Core.Path.{_≡_, refl, sym, subst}
+use Prim.Native.Nat.{ℕ, _≤_}
+use mathlib.Core.Path.{_≡_, sym, subst}
 use mathlib.Core.List.{List}
-use mathlib.Core.Bool.{Bool, true, _&&_}
-use lib.Dec.{T, leb, leb→le}
-use lib.IntN.{ℤ, pos}
-use lib.Signed.{leZ}
+use mathlib.Core.Bool.{true, _&&_}
+use lib.Dec.{leb, leb→le}
+use lib.IntN.{ℤ}
 use Rattle.laws.proofs.Tests.{and-l, and-r, from-true}
 use Rattle.sheet.specs.Sheet.{coordinate, inLimits}
-use Rattle.sheet.specs.declared.Cell.{Cell}
 use Rattle.record.specs.Layout.{lineRow, circleRow, ellipseRow, curveRow}
 use Rattle.record.specs.Reading.{valuesFrom, readOf, readAt}
 use Rattle.record.specs.declared.types.Figure.{Figure}

@@ -1,6 +1,6 @@
 -- Which row of the table a kind has.
 use Prim.Native.Nat.{ℕ}
-use mathlib.Core.Path.{_≡_, refl}
+use mathlib.Core.Path.{_≡_}
 use mathlib.Core.List.{List}
 use borrow.Author.Tests.{ne-eqb}
 use Rattle.sheet.specs.declared.Refusal.the-variants.{Kind}

@@ -24,7 +24,7 @@ pub data Found : Type 0 where
 
 -- the refusal with its offset unless the test holds, and then what follows
 abbrev pub unlessAt : Bool → Refusal → ℕ → Found → Found
-unlessAt test r at next = cond test next (refused r at)
+unlessAt test r at rest = cond test rest (refused r at)
 
 -- the values of fields that follow each other from k on
 unfoldable pub valuesFrom : List Field → List ℕ → ℕ → List ℤ
@@ -33,18 +33,18 @@ valuesFrom (f ∷ fs) p k = valueAt f p k ∷ valuesFrom fs p (k + width f)
 
 -- a field within its limits; else 2 for a coordinate, 3 for a radius or semi-axis, 4 for s
 abbrev pub limited : Field → ℤ → ℕ → Found → Found
-limited ink z at next = next
-limited coordinate z at next = unlessAt (sheet.coordinate z) Coordinate at next
-limited radius z at next = unlessAt (isRadius z) Radius at next
-limited axis z at next = unlessAt (isAxis z) Radius at next
-limited pieces z at next = unlessAt (isPieces z) Pieces at next
+limited ink z at rest = rest
+limited coordinate z at rest = unlessAt (sheet.coordinate z) Coordinate at rest
+limited radius z at rest = unlessAt (isRadius z) Radius at rest
+limited axis z at rest = unlessAt (isAxis z) Radius at rest
+limited pieces z at rest = unlessAt (isPieces z) Pieces at rest
 
 -- each field from k on in turn
 unfoldable pub limitedFrom : List Field → List ℕ → ℕ → ℕ → Found → Found
-limitedFrom [] p k at next = next
-limitedFrom (f ∷ fs) p k at next = limited f (valueAt f p k) at (limitedFrom fs p (k + width f) at next)
+limitedFrom [] p k at rest = rest
+limitedFrom (f ∷ fs) p k at rest = limited f (valueAt f p k) at (limitedFrom fs p (k + width f) at rest)
 
--- a payload of a row's kind: 10 unless it has the row's length, then what its fields are refused as
+-- a payload of a row's kind: 10 unless the length, which counts the kind's 2 bytes and the payload, is the row's; then its fields
 unfoldable pub rowFound : Row → List ℕ → ℕ → ℕ → Found
 rowFound row p at next =
     unlessAt (eqb (2 + length p) (row .length)) Length at
@@ -59,7 +59,7 @@ kindFound (row ∷ rows) kind p at next = cond (eqb kind (row .kind)) (rowFound 
 abbrev pub payloadAt : List ℕ → ℕ → List ℕ
 payloadAt s at = take (wordAt s at - 2) (drop (at + 4) s)
 
--- At an offset not below the file's length the end; 8 where only 1 byte is left, or fewer than the length; 10 where that is under 2.
+-- At an offset not below the file's length the end; 8 with only 1 byte left, or under the length after its 2; 10 with a length under 2.
 unfoldable pub foundAt : List ℕ → ℕ → Found
 foundAt s at =
     cond (leb (length s) at) end
@@ -81,7 +81,7 @@ answerOf (refused r at) = refuseAt r at
 unfoldable pub readAnswer : List ℕ → ℕ → Answer
 readAnswer s at = answerOf (foundAt s at)
 
--- the code's answer
+-- the code's answer: the same, its values made into a figure
 abbrev pub readOf : Found → Read
 readOf (found at next row v) = Record (record { offset = at; next = next; ink = numberIn v 0; figure = row .figure v })
 readOf end = End

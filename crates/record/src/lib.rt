@@ -8,7 +8,7 @@ pub use types::Figure;
 pub use types::Read;
 pub use types::Record;
 ghost use mathlib.Core.Path.{_≡_};
-ghost use Prim.Native.Nat.{ℕ, _+_, _*_, _<_};
+ghost use Prim.Native.Nat.{_+_, _*_, _<_};
 ghost use lib.IntN.{pos};
 ghost use lib.ListN.{length};
 ghost use Rattle.record.specs.Layout.{wordAt, signed, isAxis, cellAt, lineRow, circleRow, ellipseRow, curveRow, table};
