@@ -14,7 +14,7 @@ use Rattle.record.specs.declared.types.Record.{Record}
 use Rattle.record.specs.declared.types.Read.{Read}
 use Rattle.record.specs.declared.types.Read.the-variants as read
 use Rattle.record.proofs.types.Read.{enum}
-use Rattle.record.proofs.Past.{past}
+use Rattle.record.proofs.Stands.{stands}
 use Rattle.record.proofs.Onward.{from-record, from-end, from-refusal}
 
 -- the answer of contents that stand after n records
@@ -42,7 +42,7 @@ begins s = record { whole = after-none (readFrom s 0); few = omega arith; inside
 module _ (s : List ℕ) (count at : ℕ) (h : Counting s count at) where
   pub turn : (r : Record) → read.Record r ≡ readAt s at → Counting s (count + 1) (r .next)
   turn r e =
-      let p = past s at r e in
+      let p = stands s at r e in
       record {
         whole = after-one count r (readFrom s (r .next)) ∙ ap (answerAfter count) (sym (from-record s at r e)) ∙ h .whole;
         few = omega arith;

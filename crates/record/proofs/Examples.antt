@@ -3,11 +3,11 @@ use Prim.Native.Nat.{ℕ, _+_, _-_, _≤_}
 use mathlib.Core.Path.{_≡_, refl}
 use mathlib.Core.List.{List, [], _∷_, map}
 use native.Mathlib.Omega.{arith}
-use lib.IntN.{pos}
+use lib.IntN.{pos, negsuc}
 use lib.ListN.{length, length-take, length-drop}
 use Rattle.sheet.specs.Reply.{Answer, done}
 use Rattle.sheet.specs.Sheet as sheet
-use Rattle.sheet.specs.declared.Refusal.the-variants.{Short, Kind, Length}
+use Rattle.sheet.specs.declared.Refusal.the-variants.{Coordinate, Pieces, Short, Kind, Length}
 use Rattle.record.specs.Layout.{Field, Row, wordAt, width, signed, lineRow, circleRow, ellipseRow, curveRow, table}
 use Rattle.record.specs.Reading.{refuseAt, valuesFrom, limitedFrom, rowFound, kindFound, payloadAt, foundAt, readAt, readAnswer}
 use Rattle.record.specs.File.{readIn, readFrom, readAll, fileAnswer}
@@ -34,6 +34,26 @@ examples =
       first = done (pos 0 ∷ pos 13 ∷ pos 1 ∷ pos 1 ∷ pos 0 ∷ pos 0 ∷ pos 2 ∷ pos 1 ∷ []);
       whole = done (pos 1 ∷ []);
     }
+    -- the same and a lone byte after it: 8 at offset 13
+    ∷ record {
+      file = 11 ∷ 0 ∷ 1 ∷ 0 ∷ 1 ∷ 0 ∷ 0 ∷ 0 ∷ 0 ∷ 2 ∷ 0 ∷ 1 ∷ 0 ∷ 11 ∷ [];
+      first = done (pos 0 ∷ pos 13 ∷ pos 1 ∷ pos 1 ∷ pos 0 ∷ pos 0 ∷ pos 2 ∷ pos 1 ∷ []);
+      whole = refuseAt Short 13;
+    }
+    -- a circle at (16,383, −1) is read, and one at 16,384 refused with 2
+    ∷ record {
+      file = 9 ∷ 0 ∷ 2 ∷ 0 ∷ 5 ∷ 255 ∷ 63 ∷ 255 ∷ 255 ∷ 3 ∷ 0 ∷ [];
+      first = done (pos 0 ∷ pos 11 ∷ pos 2 ∷ pos 5 ∷ pos 16383 ∷ negsuc 0 ∷ pos 3 ∷ []);
+      whole = done (pos 1 ∷ []);
+    }
+    ∷ record { file = 9 ∷ 0 ∷ 2 ∷ 0 ∷ 5 ∷ 0 ∷ 64 ∷ 255 ∷ 255 ∷ 3 ∷ 0 ∷ []; first = refuseAt Coordinate 0; whole = refuseAt Coordinate 0 }
+    -- a curve of s = 6 is read, and one of s = 7 refused with 4
+    ∷ record {
+      file = 16 ∷ 0 ∷ 4 ∷ 0 ∷ 1 ∷ 0 ∷ 0 ∷ 0 ∷ 0 ∷ 2 ∷ 0 ∷ 4 ∷ 0 ∷ 4 ∷ 0 ∷ 0 ∷ 0 ∷ 6 ∷ [];
+      first = done (pos 0 ∷ pos 18 ∷ pos 4 ∷ pos 1 ∷ pos 0 ∷ pos 0 ∷ pos 2 ∷ pos 4 ∷ pos 4 ∷ pos 0 ∷ pos 6 ∷ []);
+      whole = done (pos 1 ∷ []);
+    }
+    ∷ record { file = 16 ∷ 0 ∷ 4 ∷ 0 ∷ 1 ∷ 0 ∷ 0 ∷ 0 ∷ 0 ∷ 2 ∷ 0 ∷ 4 ∷ 0 ∷ 4 ∷ 0 ∷ 0 ∷ 0 ∷ 7 ∷ []; first = refuseAt Pieces 0; whole = refuseAt Pieces 0 }
     ∷ []
 
 pub examples-hold : (map (λ (e : Example). readAnswer (e .file) 0) examples ≡ map (λ (e : Example). e .first) examples)

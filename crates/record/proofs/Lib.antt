@@ -4,8 +4,7 @@ mod Table
 mod Frames
 mod Found
 pub mod Told
-pub mod Past
-pub mod Sound
+pub mod Stands
 pub mod Onward
 mod Counting
 pub mod Unique

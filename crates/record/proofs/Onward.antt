@@ -10,7 +10,7 @@ use Rattle.record.specs.File.{Contents, holds, refuses, also, onward, re
 use Rattle.record.specs.declared.types.Record.{Record}
 use Rattle.record.specs.declared.types.Read.{Read}
 use Rattle.record.specs.declared.types.Read.the-variants as read
-use Rattle.record.proofs.Past.{past}
+use Rattle.record.proofs.Stands.{stands}
 
 -- what follows matters only after a record
 onward-as : (f g : ℕ → Contents) (q : Read) → ((r : Record) → read.Record r ≡ q → f (r .next) ≡ g (r .next)) → onward f q ≡ onward g q
@@ -24,14 +24,14 @@ unfolding readIn
 enough s zero n at h g = absurd (omega arith)
 enough s (suc m) zero at h g = absurd (omega arith)
 enough s (suc m) (suc n) at h g =
-    onward-as (readIn m s) (readIn n s) (readAt s at) (λ r e. let p = past s at r e in enough s m n (r .next) (omega arith) (omega arith))
+    onward-as (readIn m s) (readIn n s) (readAt s at) (λ r e. let p = stands s at r e in enough s m n (r .next) (omega arith) (omega arith))
 
 -- the file from an offset on is what is read there and the file from the next offset on
 pub read-on : (s : List ℕ) (at : ℕ) → readFrom s at ≡ onward (readFrom s) (readAt s at)
 unfolding readFrom readIn
 read-on s at =
     onward-as (readIn (length s - at) s) (readFrom s) (readAt s at)
-    (λ r e. let p = past s at r e in enough s (length s - at) (suc (length s - r .next)) (r .next) (omega arith) (omega arith))
+    (λ r e. let p = stands s at r e in enough s (length s - at) (suc (length s - r .next)) (r .next) (omega arith) (omega arith))
 
 module _ (s : List ℕ) (at : ℕ) where
   pub from-record : (r : Record) → read.Record r ≡ readAt s at → readFrom s at ≡ also r (readFrom s (r .next))

@@ -15,6 +15,7 @@ ghost use Rattle.record.specs.Layout.{wordAt, signed, isAxis, cellAt, li
 ghost use Rattle.record.specs.Reading.{rowFound, kindFound, readOf, readAt, readAnswer, toldRead};
 ghost use Rattle.record.specs.File.{closedBy, fileAnswer, toldChecked};
 
+// A byte, widened.
 fn wide(x: u8) -> u32
     ensures { λ r. ⌜ r ≡ x ⌝ }
 {
@@ -40,6 +41,7 @@ fn signed(n: u32) -> i32
     }
 }
 
+// The word at k.
 fn word_at(bytes: &[u8], k: usize) -> u32
     requires { ⌜ k + 1 < length (now bytes) ⌝ }
     ensures { λ r. ⌜ (r ≡ wordAt (now (bytes .entry)) k) × (r < 65536) ⌝ }

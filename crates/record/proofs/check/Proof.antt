@@ -7,7 +7,7 @@ use lib.ListN.{length}
 use Rattle.record.specs.Reading.{readAt}
 use Rattle.record.specs.File.{toldChecked}
 use Rattle.record.specs.declared.types.Read.the-variants as read
-use Rattle.record.proofs.Past.{past}
+use Rattle.record.proofs.Stands.{stands}
 use Rattle.record.proofs.Counting.{Counting, begins, turn, closes}
 use Rattle.record.proofs.check.Statement.{statement}
 use Rattle.record.proofs.check.Tie as tie
@@ -43,12 +43,12 @@ is-record c = sym (c .before .answer .given .1) ∙ c .before .before .before .r
 
 add-count : tie.Need-add-count Inv-loop μ-loop
 add-count c =
-    let p = past _ _ _ (is-record c) in
+    let p = stands _ _ _ (is-record c) in
     omega (arith, c .before .before .before .before .loop .inv)
 
 loop-less : tie.Need-loop-less Inv-loop μ-loop
 loop-less c =
-    let p = past _ _ _ (is-record c) in
+    let p = stands _ _ _ (is-record c) in
     omega arith
 
 loop-again : tie.Need-loop-again Inv-loop μ-loop
