@@ -1,0 +1,75 @@
+-- Document 01's examples of records: files, what is read at their first byte, and what the whole file answers.
+use Prim.Native.Nat.{ℕ, _+_, _-_, _≤_}
+use mathlib.Core.Path.{_≡_, refl}
+use mathlib.Core.List.{List, [], _∷_, map}
+use native.Mathlib.Omega.{arith}
+use lib.IntN.{pos, negsuc}
+use lib.ListN.{length, length-take, length-drop}
+use Rattle.sheet.specs.Reply.{Answer, done}
+use Rattle.sheet.specs.Sheet as sheet
+use Rattle.sheet.specs.declared.Refusal.the-variants.{Coordinate, Pieces, Short, Kind, Length}
+use Rattle.record.specs.Layout.{Field, Row, wordAt, width, signed, lineRow, circleRow, ellipseRow, curveRow, table}
+use Rattle.record.specs.Reading.{refuseAt, valuesFrom, limitedFrom, rowFound, kindFound, payloadAt, foundAt, readAt, readAnswer}
+use Rattle.record.specs.File.{readIn, readFrom, readAll, fileAnswer}
+
+pub record Example : Type 0 where
+  pub file : List ℕ
+  pub first : Answer
+  pub whole : Answer
+
+pub examples : List Example
+examples =
+    -- the empty file is done with 0 records
+    record { file = []; first = done []; whole = done (pos 0 ∷ []) }
+    -- a lone byte: 8 at offset 0
+    ∷ record { file = 11 ∷ []; first = refuseAt Short 0; whole = refuseAt Short 0 }
+    -- length 1 with one byte after it: 10; with nothing after it: 8
+    ∷ record { file = 1 ∷ 0 ∷ 7 ∷ []; first = refuseAt Length 0; whole = refuseAt Length 0 }
+    ∷ record { file = 1 ∷ 0 ∷ []; first = refuseAt Short 0; whole = refuseAt Short 0 }
+    -- kind 9 with length 11 and its 11 bytes: 9
+    ∷ record { file = 11 ∷ 0 ∷ 9 ∷ 0 ∷ 1 ∷ 0 ∷ 0 ∷ 0 ∷ 0 ∷ 2 ∷ 0 ∷ 1 ∷ 0 ∷ []; first = refuseAt Kind 0; whole = refuseAt Kind 0 }
+    -- the line (0,0) to (2,1) with ink 1, and 13 the offset after it
+    ∷ record {
+      file = 11 ∷ 0 ∷ 1 ∷ 0 ∷ 1 ∷ 0 ∷ 0 ∷ 0 ∷ 0 ∷ 2 ∷ 0 ∷ 1 ∷ 0 ∷ [];
+      first = done (pos 0 ∷ pos 13 ∷ pos 1 ∷ pos 1 ∷ pos 0 ∷ pos 0 ∷ pos 2 ∷ pos 1 ∷ []);
+      whole = done (pos 1 ∷ []);
+    }
+    -- the same and a lone byte after it: 8 at offset 13
+    ∷ record {
+      file = 11 ∷ 0 ∷ 1 ∷ 0 ∷ 1 ∷ 0 ∷ 0 ∷ 0 ∷ 0 ∷ 2 ∷ 0 ∷ 1 ∷ 0 ∷ 11 ∷ [];
+      first = done (pos 0 ∷ pos 13 ∷ pos 1 ∷ pos 1 ∷ pos 0 ∷ pos 0 ∷ pos 2 ∷ pos 1 ∷ []);
+      whole = refuseAt Short 13;
+    }
+    -- a circle at (16,383, −1) is read, and one at 16,384 refused with 2
+    ∷ record {
+      file = 9 ∷ 0 ∷ 2 ∷ 0 ∷ 5 ∷ 255 ∷ 63 ∷ 255 ∷ 255 ∷ 3 ∷ 0 ∷ [];
+      first = done (pos 0 ∷ pos 11 ∷ pos 2 ∷ pos 5 ∷ pos 16383 ∷ negsuc 0 ∷ pos 3 ∷ []);
+      whole = done (pos 1 ∷ []);
+    }
+    ∷ record { file = 9 ∷ 0 ∷ 2 ∷ 0 ∷ 5 ∷ 0 ∷ 64 ∷ 255 ∷ 255 ∷ 3 ∷ 0 ∷ []; first = refuseAt Coordinate 0; whole = refuseAt Coordinate 0 }
+    -- a curve of s = 6 is read, and one of s = 7 refused with 4
+    ∷ record {
+      file = 16 ∷ 0 ∷ 4 ∷ 0 ∷ 1 ∷ 0 ∷ 0 ∷ 0 ∷ 0 ∷ 2 ∷ 0 ∷ 4 ∷ 0 ∷ 4 ∷ 0 ∷ 0 ∷ 0 ∷ 6 ∷ [];
+      first = done (pos 0 ∷ pos 18 ∷ pos 4 ∷ pos 1 ∷ pos 0 ∷ pos 0 ∷ pos 2 ∷ pos 4 ∷ pos 4 ∷ pos 0 ∷ pos 6 ∷ []);
+      whole = done (pos 1 ∷ []);
+    }
+    ∷ record { file = 16 ∷ 0 ∷ 4 ∷ 0 ∷ 1 ∷ 0 ∷ 0 ∷ 0 ∷ 0 ∷ 2 ∷ 0 ∷ 4 ∷ 0 ∷ 4 ∷ 0 ∷ 0 ∷ 0 ∷ 7 ∷ []; first = refuseAt Pieces 0; whole = refuseAt Pieces 0 }
+    ∷ []
+
+pub examples-hold : (map (λ (e : Example). readAnswer (e .file) 0) examples ≡ map (λ (e : Example). e .first) examples)
+    × (map (λ (e : Example). fileAnswer (e .file)) examples ≡ map (λ (e : Example). e .whole) examples)
+unfolding examples readAnswer fileAnswer readAll readFrom readIn readAt foundAt kindFound rowFound limitedFrom valuesFrom table lineRow circleRow ellipseRow curveRow signed sheet.coordinate
+examples-hold = (refl, refl)
+
+-- the table's lengths count the 2 bytes of the kind and those of the payload
+pub widths : List Field → ℕ
+widths [] = 0
+widths (f ∷ fs) = width f + widths fs
+
+pub lengths-hold : map (λ (row : Row). row .length) table ≡ map (λ (row : Row). 2 + widths (row .payload)) table
+unfolding widths table lineRow circleRow ellipseRow curveRow
+lengths-hold = refl
+
+-- and so does the length of a record that the file has whole
+pub length-holds : (s : List ℕ) (at : ℕ) → 2 ≤ length s - at → 2 ≤ wordAt s at → wordAt s at ≤ length s - at - 2 → 2 + length (payloadAt s at) ≡ wordAt s at
+length-holds s at f g h = simp (length-take, length-drop) (omega arith)

@@ -1,0 +1,11 @@
+mod Words
+mod Rows
+mod Table
+mod Frames
+mod Found
+pub mod Told
+pub mod Stands
+pub mod Onward
+mod Counting
+pub mod Unique
+pub mod Examples

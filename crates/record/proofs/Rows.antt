@@ -1,0 +1,73 @@
+-- What each kind's payload is read as, test by test in its decoder's order.
+use Prim.Native.Nat.{ℕ, _+_}
+use mathlib.Core.Path.{_≡_, refl}
+use mathlib.Core.List.{List}
+use mathlib.Core.Bool.{Bool, true, false, cond, _&&_}
+use native.Mathlib.Omega.{arith}
+use borrow.Author.Tests.{eq-eqb, ne-eqb}
+use lib.Dec.{leb, leb·zero}
+use lib.IntN.{pos}
+use lib.ListN.{length, getD}
+use Rattle.sheet.specs.Sheet.{inLimits}
+use Rattle.sheet.specs.declared.Cell.{Cell}
+use Rattle.sheet.specs.declared.Refusal.{Refusal}
+use Rattle.sheet.specs.declared.Refusal.the-variants.{Coordinate, Radius, Pieces, Length}
+use Rattle.record.specs.Layout.{Row, wordAt, isAxis, cellAt, lineRow, circleRow, ellipseRow, curveRow}
+use Rattle.record.specs.Reading.{Found, unlessAt, valuesFrom, limitedFrom, rowFound, readOf}
+use Rattle.record.specs.declared.types.Figure.the-variants.{Line, Circle, Ellipse, Curve}
+use Rattle.record.specs.declared.types.Read.the-variants.{Record, Refused}
+
+-- two tests in turn are both at once
+both : {A : Type 0} (a b : Bool) (x y : A) → cond (a && b) x y ≡ cond a (cond b x y) y
+both true b x y = refl
+both false b x y = refl
+
+-- what a test leaves, as the code answers it
+read-unless : (t : Bool) (r : Refusal) (at : ℕ) (f : Found) → readOf (unlessAt t r at f) ≡ cond t (readOf f) (Refused r at)
+read-unless true r at f = refl
+read-unless false r at f = refl
+
+module _ (p : List ℕ) (at next : ℕ) where
+  -- a payload of another length
+  pub other-length : (row : Row) → (2 + length p ≡ row .length → ⊥) → Refused Length at ≡ readOf (rowFound row p at next)
+  unfolding rowFound
+  other-length row h = simp (ne-eqb (2 + length p) (row .length) h)
+
+  pub line-found : (a b : Cell) → length p ≡ 9 → a ≡ cellAt p 1 → b ≡ cellAt p 5
+      → readOf (rowFound lineRow p at next) ≡
+      cond (inLimits a)
+      (cond (inLimits b)
+      (Record (record { offset = at; next = next; ink = getD p 0 0; figure = Line a b }))
+      (Refused Coordinate at)) (Refused Coordinate at)
+  unfolding rowFound limitedFrom valuesFrom lineRow inLimits
+  line-found a b h e f = rw (e, f) (simp (eq-eqb (2 + length p) 11 (omega arith), both, read-unless))
+
+  pub circle-found : (centre : Cell) (r : ℕ) → length p ≡ 7 → centre ≡ cellAt p 1 → r ≡ wordAt p 5
+      → readOf (rowFound circleRow p at next) ≡
+      cond (inLimits centre)
+      (cond (leb r 16383)
+      (Record (record { offset = at; next = next; ink = getD p 0 0; figure = Circle centre r }))
+      (Refused Radius at)) (Refused Coordinate at)
+  unfolding rowFound limitedFrom valuesFrom circleRow inLimits
+  circle-found centre r h e f = rw (e, f) (simp (eq-eqb (2 + length p) 9 (omega arith), both, read-unless, leb·zero))
+
+  pub ellipse-found : (centre : Cell) (a b : ℕ) → length p ≡ 9 → centre ≡ cellAt p 1 → a ≡ wordAt p 5 → b ≡ wordAt p 7
+      → readOf (rowFound ellipseRow p at next) ≡
+      cond (inLimits centre)
+      (cond (isAxis (pos a))
+      (cond (isAxis (pos b))
+      (Record (record { offset = at; next = next; ink = getD p 0 0; figure = Ellipse centre a b }))
+      (Refused Radius at)) (Refused Radius at)) (Refused Coordinate at)
+  unfolding rowFound limitedFrom valuesFrom ellipseRow inLimits
+  ellipse-found centre a b h e f g = rw (e, f, g) (simp (eq-eqb (2 + length p) 11 (omega arith), both, read-unless))
+
+  pub curve-found : (p0 p1 p2 : Cell) (s : ℕ) → length p ≡ 14 → p0 ≡ cellAt p 1 → p1 ≡ cellAt p 5 → p2 ≡ cellAt p 9 → s ≡ getD p 13 0
+      → readOf (rowFound curveRow p at next) ≡
+      cond (inLimits p0)
+      (cond (inLimits p1)
+      (cond (inLimits p2)
+      (cond (leb s 6)
+      (Record (record { offset = at; next = next; ink = getD p 0 0; figure = Curve p0 p1 p2 s }))
+      (Refused Pieces at)) (Refused Coordinate at)) (Refused Coordinate at)) (Refused Coordinate at)
+  unfolding rowFound limitedFrom valuesFrom curveRow inLimits
+  curve-found p0 p1 p2 s h e f g k = rw (e, f, g, k) (simp (eq-eqb (2 + length p) 16 (omega arith), both, read-unless, leb·zero))

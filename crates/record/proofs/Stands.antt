@@ -1,0 +1,97 @@
+-- A record that was read: it moves on by 4 bytes at least, not past the file's end, and its figure is within the limits.
+use Prim.Native.Nat.{ℕ, _+_, _≤_}
+use mathlib.Core.Path.{_≡_, refl, sym, subst}
+use mathlib.Core.List.{List}
+use mathlib.Core.Bool.{true, _&&_}
+use lib.Dec.{leb, leb→le}
+use lib.IntN.{ℤ}
+use lib.ListN.{length}
+use Rattle.laws.proofs.Tests.{and-l, and-r, from-true}
+use Rattle.sheet.specs.Sheet.{coordinate, inLimits}
+use Rattle.record.specs.Layout.{Row, wordAt, lineRow, circleRow, ellipseRow, curveRow}
+use Rattle.record.specs.Reading.{Found, valuesFrom, payloadAt, readOf, readAt}
+use Rattle.record.specs.declared.types.Figure.{Figure}
+use Rattle.record.specs.declared.types.Figure.the-variants.{Line, Circle, Ellipse, Curve}
+use Rattle.record.specs.declared.types.Record.{Record}
+use Rattle.record.specs.declared.types.Read.{Read}
+use Rattle.record.specs.declared.types.Read.the-variants as read
+use Rattle.record.proofs.Found.{LimitedFrom, Made, kind-has, found-has}
+
+-- from the least to the most that a number may be
+abbrev pub Between : ℕ → ℕ → ℕ → Type 0
+Between least most n = (least ≤ n) × (n ≤ most)
+
+-- no drawing refuses the figure for its fields
+abbrev pub Sound : Figure → Type 0
+Sound (Line a b) = (inLimits a ≡ true) × (inLimits b ≡ true)
+Sound (Circle c r) = (inLimits c ≡ true) × Between 0 16383 r
+Sound (Ellipse c a b) = (inLimits c ≡ true) × Between 1 16383 a × Between 1 16383 b
+Sound (Curve p q r s) = (inLimits p ≡ true) × (inLimits q ≡ true) × (inLimits r ≡ true) × Between 0 6 s
+
+-- the record stands at the offset of the file
+pub record Stands (s : List ℕ) (at : ℕ) (r : Record) : Type 0 where
+  pub here : r .offset ≡ at
+  pub on : at + 4 ≤ r .next
+  pub inside : r .next ≤ length s
+  pub sound : Sound (r .figure)
+
+cell : (x y : ℤ) → coordinate x ≡ true → coordinate y ≡ true → inLimits (record { x = x; y = y }) ≡ true
+unfolding inLimits
+cell x y a b = simp (a, b)
+
+between : (least most n : ℕ) → (leb least n && leb n most) ≡ true → Between least most n
+between least most n e =
+    let t = from-true (leb least n && leb n most) e in
+    (leb→le least n (and-l (leb least n) (leb n most) t), leb→le n most (and-r (leb least n) (leb n most) t))
+
+-- the figure of a row, where the fields of its payload are within their limits
+abbrev RowSound : Row → List ℕ → Type 0
+RowSound row p = LimitedFrom (row .payload) p 0 → Sound (row .figure (valuesFrom (row .payload) p 0))
+
+module _ (p : List ℕ) where
+  line-sound : RowSound lineRow p
+  unfolding LimitedFrom valuesFrom lineRow
+  line-sound l = let b = l .1 .1 .1 in (cell _ _ (l .1 .0) (l .1 .1 .0), cell _ _ (b .0) (b .1 .0))
+
+  circle-sound : RowSound circleRow p
+  unfolding LimitedFrom valuesFrom circleRow
+  circle-sound l = (cell _ _ (l .1 .0) (l .1 .1 .0), between 0 16383 _ (l .1 .1 .1 .0))
+
+  ellipse-sound : RowSound ellipseRow p
+  unfolding LimitedFrom valuesFrom ellipseRow
+  ellipse-sound l =
+      let a = l .1 .1 .1 in
+      (cell _ _ (l .1 .0) (l .1 .1 .0), between 1 16383 _ (a .0), between 1 16383 _ (a .1 .0))
+
+  curve-sound : RowSound curveRow p
+  unfolding LimitedFrom valuesFrom curveRow
+  curve-sound l =
+      let p1 = l .1 .1 .1 in
+      let p2 = p1 .1 .1 in
+      (cell _ _ (l .1 .0) (l .1 .1 .0), cell _ _ (p1 .0) (p1 .1 .0), cell _ _ (p2 .0) (p2 .1 .0), between 0 6 _ (p2 .1 .1 .0))
+
+module _ (s : List ℕ) (at : ℕ) where
+  abbrev IfRecord : Read → Type 0
+  IfRecord (read.Record r) = Stands s at r
+  IfRecord read.End = Unit {0}
+  IfRecord (read.Refused q o) = Unit {0}
+
+  abbrev IfFound : Found → Type 0
+  IfFound f = IfRecord (readOf f)
+
+  if-record : IfRecord (readAt s at)
+  unfolding readAt
+  if-record =
+      found-has IfFound (λ q o. tt) s at tt
+      (λ a b.
+      let p = payloadAt s at in
+      let made : (row : Row) → RowSound row p → Made IfFound (λ q o. tt) p at (at + 2 + wordAt s at) row =
+      λ row f l. record { here = refl; on = a; inside = b; sound = f l } in
+      kind-has IfFound (λ q o. tt) p _ _ _
+      (made lineRow (line-sound p))
+      (made circleRow (circle-sound p))
+      (made ellipseRow (ellipse-sound p))
+      (made curveRow (curve-sound p)))
+
+  pub stands : (r : Record) → read.Record r ≡ readAt s at → Stands s at r
+  stands r e = subst IfRecord (sym e) if-record

@@ -1,0 +1,13 @@
+-- `record::is_axis` meets its contract.
+use borrow.Author.Tests.{lt-leb, le-leb}
+use Rattle.record.proofs.is_axis.Statement.{statement}
+use Rattle.record.proofs.is_axis.Tie as tie
+
+returns : tie.Need-returns
+returns c = simp (lt-leb _ _ (c .if1 .taken))
+
+returns-2 : tie.Need-returns-2
+returns-2 c = simp (le-leb _ _ (c .if1 .left))
+
+pub is-axis-spec : {M : Type 1} → statement M
+is-axis-spec = tie.close (tie.spec returns returns-2)

@@ -1,0 +1,109 @@
+-- Document 01, "Record file": the table of kinds, and how the fields of a payload are held.
+use Prim.Native.Nat.{ℕ, _+_, _*_}
+use mathlib.Core.List.{List, [], _∷_}
+use mathlib.Core.Bool.{Bool, cond, _&&_}
+use lib.Dec.{ltb}
+use lib.IntN.{ℤ, pos, natAbs, _-ℤ_}
+use lib.ListN.{getD}
+use lib.Signed.{leZ}
+use Rattle.sheet.specs.declared.Cell.{Cell}
+use Rattle.record.specs.declared.types.Figure.{Figure}
+use Rattle.record.specs.declared.types.Figure.the-variants.{Line, Circle, Ellipse, Curve}
+
+-- 2 bytes, little-endian
+abbrev pub wordAt : List ℕ → ℕ → ℕ
+wordAt s k = getD s k 0 + 256 * getD s (k + 1) 0
+
+-- signed 16-bit: from 32,768 on a word stands for 65,536 less
+unfoldable pub signed : ℕ → ℤ
+signed n = cond (ltb n 32768) (pos n) (pos n -ℤ pos 65536)
+
+-- The fields of a payload: coordinates are signed 16-bit, radii and axes unsigned 16-bit; the ink and s are 1 byte.
+pub data Field : Type 0 where
+  ink : Field
+  coordinate : Field
+  radius : Field
+  axis : Field
+  pieces : Field
+
+abbrev pub width : Field → ℕ
+width ink = 1
+width coordinate = 2
+width radius = 2
+width axis = 2
+width pieces = 1
+
+abbrev pub valueAt : Field → List ℕ → ℕ → ℤ
+valueAt ink s k = pos (getD s k 0)
+valueAt coordinate s k = signed (wordAt s k)
+valueAt radius s k = pos (wordAt s k)
+valueAt axis s k = pos (wordAt s k)
+valueAt pieces s k = pos (getD s k 0)
+
+-- Circle radius is 0 to 16,383; each ellipse semi-axis is 1 to 16,383; s from 0 to 6.
+abbrev pub isRadius : ℤ → Bool
+isRadius z = leZ (pos 0) z && leZ z (pos 16383)
+
+abbrev pub isAxis : ℤ → Bool
+isAxis z = leZ (pos 1) z && leZ z (pos 16383)
+
+abbrev pub isPieces : ℤ → Bool
+isPieces z = leZ (pos 0) z && leZ z (pos 6)
+
+-- the cell of a value and the next, and a value that is no coordinate
+abbrev pub cellIn : List ℤ → ℕ → Cell
+cellIn v n = record { x = getD v n (pos 0); y = getD v (n + 1) (pos 0) }
+
+abbrev pub numberIn : List ℤ → ℕ → ℕ
+numberIn v n = natAbs (getD v n (pos 0))
+
+-- A row of the table: kind, length, payload, and the figure that the payload's values make.
+pub record Row : Type 0 where
+  pub kind : ℕ
+  pub length : ℕ
+  pub payload : List Field
+  pub figure : List ℤ → Figure
+
+unfoldable pub lineRow : Row
+lineRow =
+    record {
+      kind = 1;
+      length = 11;
+      payload = ink ∷ coordinate ∷ coordinate ∷ coordinate ∷ coordinate ∷ [];
+      figure = λ (v : List ℤ). Line (cellIn v 1) (cellIn v 3);
+    }
+
+unfoldable pub circleRow : Row
+circleRow =
+    record {
+      kind = 2;
+      length = 9;
+      payload = ink ∷ coordinate ∷ coordinate ∷ radius ∷ [];
+      figure = λ (v : List ℤ). Circle (cellIn v 1) (numberIn v 3);
+    }
+
+unfoldable pub ellipseRow : Row
+ellipseRow =
+    record {
+      kind = 3;
+      length = 11;
+      payload = ink ∷ coordinate ∷ coordinate ∷ axis ∷ axis ∷ [];
+      figure = λ (v : List ℤ). Ellipse (cellIn v 1) (numberIn v 3) (numberIn v 4);
+    }
+
+unfoldable pub curveRow : Row
+curveRow =
+    record {
+      kind = 4;
+      length = 16;
+      payload = ink ∷ coordinate ∷ coordinate ∷ coordinate ∷ coordinate ∷ coordinate ∷ coordinate ∷ pieces ∷ [];
+      figure = λ (v : List ℤ). Curve (cellIn v 1) (cellIn v 3) (cellIn v 5) (numberIn v 7);
+    }
+
+-- the table
+unfoldable pub table : List Row
+table = lineRow ∷ circleRow ∷ ellipseRow ∷ curveRow ∷ []
+
+-- a cell: x, then y
+abbrev pub cellAt : List ℕ → ℕ → Cell
+cellAt s k = record { x = valueAt coordinate s k; y = valueAt coordinate s (k + 2) }

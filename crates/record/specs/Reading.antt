@@ -1,0 +1,112 @@
+-- Document 01, "Record file": what stands at an offset of a file.
+use Prim.Native.Nat.{ℕ, _+_, _-_}
+use mathlib.Core.List.{List, [], _∷_}
+use mathlib.Core.Bool.{Bool, cond}
+use lib.Dec.{leb, eqb}
+use lib.IntN.{ℤ, pos}
+use lib.ListN.{length, take, drop}
+use Rattle.sheet.specs.Sheet as sheet
+use Rattle.sheet.specs.Reply.{Answer, number, done}
+use Rattle.sheet.specs.declared.Cell.{Cell}
+use Rattle.sheet.specs.declared.Refusal.{Refusal}
+use Rattle.sheet.specs.declared.Refusal.the-variants.{Coordinate, Radius, Pieces, Short, Kind, Length}
+use Rattle.record.specs.Layout.{Field, ink, coordinate, radius, axis, pieces, Row, wordAt, width, valueAt, isRadius, isAxis, isPieces, numberIn, table}
+use Rattle.record.specs.declared.types.Figure.{Figure}
+use Rattle.record.specs.declared.types.Figure.the-variants.{Line, Circle, Ellipse, Curve}
+use Rattle.record.specs.declared.types.Read.{Read}
+use Rattle.record.specs.declared.types.Read.the-variants.{Record, End, Refused}
+
+-- A record with its offset, the offset after it, its row and its payload's values; the end; or a refusal with its offset.
+pub data Found : Type 0 where
+  found : ℕ → ℕ → Row → List ℤ → Found
+  end : Found
+  refused : Refusal → ℕ → Found
+
+-- the refusal with its offset unless the test holds, and then what follows
+abbrev pub unlessAt : Bool → Refusal → ℕ → Found → Found
+unlessAt test r at rest = cond test rest (refused r at)
+
+-- the values of fields that follow each other from k on
+unfoldable pub valuesFrom : List Field → List ℕ → ℕ → List ℤ
+valuesFrom [] p k = []
+valuesFrom (f ∷ fs) p k = valueAt f p k ∷ valuesFrom fs p (k + width f)
+
+-- a field within its limits; else 2 for a coordinate, 3 for a radius or semi-axis, 4 for s
+abbrev pub limited : Field → ℤ → ℕ → Found → Found
+limited ink z at rest = rest
+limited coordinate z at rest = unlessAt (sheet.coordinate z) Coordinate at rest
+limited radius z at rest = unlessAt (isRadius z) Radius at rest
+limited axis z at rest = unlessAt (isAxis z) Radius at rest
+limited pieces z at rest = unlessAt (isPieces z) Pieces at rest
+
+-- each field from k on in turn
+unfoldable pub limitedFrom : List Field → List ℕ → ℕ → ℕ → Found → Found
+limitedFrom [] p k at rest = rest
+limitedFrom (f ∷ fs) p k at rest = limited f (valueAt f p k) at (limitedFrom fs p (k + width f) at rest)
+
+-- a payload of a row's kind: 10 unless the length, which counts the kind's 2 bytes and the payload, is the row's; then its fields
+unfoldable pub rowFound : Row → List ℕ → ℕ → ℕ → Found
+rowFound row p at next =
+    unlessAt (eqb (2 + length p) (row .length)) Length at
+    (limitedFrom (row .payload) p 0 at (found at next row (valuesFrom (row .payload) p 0)))
+
+-- a payload of a kind: 9 unless a row of the table has it
+unfoldable pub kindFound : List Row → ℕ → List ℕ → ℕ → ℕ → Found
+kindFound [] kind p at next = refused Kind at
+kindFound (row ∷ rows) kind p at next = cond (eqb kind (row .kind)) (rowFound row p at next) (kindFound rows kind p at next)
+
+-- the payload, which starts after the kind and runs to the record's end
+abbrev pub payloadAt : List ℕ → ℕ → List ℕ
+payloadAt s at = take (wordAt s at - 2) (drop (at + 4) s)
+
+-- At an offset not below the file's length the end; 8 with only 1 byte left, or under the length after its 2; 10 with a length under 2.
+unfoldable pub foundAt : List ℕ → ℕ → Found
+foundAt s at =
+    cond (leb (length s) at) end
+    (unlessAt (leb 2 (length s - at)) Short at
+    (unlessAt (leb (wordAt s at) (length s - at - 2)) Short at
+    (unlessAt (leb 2 (wordAt s at)) Length at
+    (kindFound table (wordAt s (at + 2)) (payloadAt s at) at (at + 2 + wordAt s at)))))
+
+-- a refusal's number with its offset
+abbrev pub refuseAt : Refusal → ℕ → Answer
+refuseAt r at = record { number = number r; values = pos at ∷ [] }
+
+-- the paper's answer: 0 with a record's offset, the offset after it, its kind and its payload's values; 0 alone at the end
+abbrev pub answerOf : Found → Answer
+answerOf (found at next row v) = done (pos at ∷ pos next ∷ pos (row .kind) ∷ v)
+answerOf end = done []
+answerOf (refused r at) = refuseAt r at
+
+unfoldable pub readAnswer : List ℕ → ℕ → Answer
+readAnswer s at = answerOf (foundAt s at)
+
+-- the code's answer: the same, its values made into a figure
+abbrev pub readOf : Found → Read
+readOf (found at next row v) = Record (record { offset = at; next = next; ink = numberIn v 0; figure = row .figure v })
+readOf end = End
+readOf (refused r at) = Refused r at
+
+unfoldable pub readAt : List ℕ → ℕ → Read
+readAt s at = readOf (foundAt s at)
+
+-- the code's answer in the paper's words: a figure's kind and values, and each case of a read
+abbrev pub kindOf : Figure → ℕ
+kindOf (Line a b) = 1
+kindOf (Circle c r) = 2
+kindOf (Ellipse c a b) = 3
+kindOf (Curve p q r s) = 4
+
+abbrev pub cellValues : Cell → List ℤ → List ℤ
+cellValues c v = c .x ∷ c .y ∷ v
+
+abbrev pub valuesOf : Figure → List ℤ
+valuesOf (Line a b) = cellValues a (cellValues b [])
+valuesOf (Circle c r) = cellValues c (pos r ∷ [])
+valuesOf (Ellipse c a b) = cellValues c (pos a ∷ pos b ∷ [])
+valuesOf (Curve p q r s) = cellValues p (cellValues q (cellValues r (pos s ∷ [])))
+
+abbrev pub toldRead : Read → Answer
+toldRead (Record r) = done (pos (r .offset) ∷ pos (r .next) ∷ pos (kindOf (r .figure)) ∷ pos (r .ink) ∷ valuesOf (r .figure))
+toldRead End = done []
+toldRead (Refused r at) = refuseAt r at
