@@ -19,7 +19,7 @@ use Rattle.ring.proofs.Around.{offset→, →offset}
 use Rattle.ring.proofs.Columns.{InColumns, columns→, →columns, columns-and-rows, ellipse-within}
 
 -- what the rule says of an offset (x, y) with y = j + 1
-record InEighth (r x j : ℕ) : Type 0 where
+record Eighth (r x j : ℕ) : Type 0 where
   pub steep : x ≤ suc j
   pub low : suc j * j + x * x < r * r
   pub high : r * r ≤ suc j * (suc j + 1) + x * x
@@ -45,7 +45,7 @@ module _ (r x j : ℕ) where
       let e : suc j - 1 ≡ j = omega arith in
       simp (le-ltb (suc j) 1 (omega arith), le-leb 1 (suc j) (omega arith), e, eqb·suc-zero)
 
-  eighth→ : T (inEighth (pos r) (pos x) (pos (suc j))) → InEighth r x j
+  eighth→ : T (inEighth (pos r) (pos x) (pos (suc j))) → Eighth r x j
   unfolding between
   eighth→ t =
       let u = subst T eighth-suc t in
@@ -59,7 +59,7 @@ module _ (r x j : ℕ) where
         | inr p ↦ absurd p
       ]
 
-  →eighth : InEighth r x j → T (inEighth (pos r) (pos x) (pos (suc j)))
+  →eighth : Eighth r x j → T (inEighth (pos r) (pos x) (pos (suc j)))
   unfolding between
   →eighth i =
       let h = le→leb x (suc j) (i .steep) in
@@ -68,7 +68,7 @@ module _ (r x j : ℕ) where
       subst T (sym eighth-suc) (and-i (leb x (suc j)) (between || false) h (or-l between false (and-i (ltZ (pos (suc j * j)) rest) (leZ rest (pos (suc j * (suc j + 1)))) l g)))
 
   -- y(y − 1) < r² − x² ≤ y(y + 1) is r²(2y − 1)² ≤ 4r²(r² − x²) < r²(2y + 1)²
-  eighth-least : 1 ≤ r → x ≤ r → InEighth r x j → Least (r * r) (reach r r x) (suc j)
+  eighth-least : 1 ≤ r → x ≤ r → Eighth r x j → Least (r * r) (reach r r x) (suc j)
   unfolding edge reach
   eighth-least h k i =
       let e : (r * r - x * x) + x * x ≡ r * r = omega (arith, sq-le k) in
@@ -81,7 +81,7 @@ module _ (r x j : ℕ) where
             omega (arith, mul-le-mul-left (r * r) g, sq-le h);
       }
 
-  least-eighth : 1 ≤ r → x ≤ r → x ≤ suc j → Least (r * r) (reach r r x) (suc j) → InEighth r x j
+  least-eighth : 1 ≤ r → x ≤ r → x ≤ suc j → Least (r * r) (reach r r x) (suc j) → Eighth r x j
   unfolding edge reach
   least-eighth h k l n =
       let o : 1 ≤ r * r = sq-le h in

@@ -14,6 +14,7 @@ away z centre = natAbs (z -ℤ centre)
 unfoldable pub around : Cell → (ℕ → ℕ → Bool) → Cell → Bool
 around c rule d = rule (away (d .x) (c .x)) (away (d .y) (c .y))
 
+-- z²
 abbrev pub sq : ℤ → ℤ
 sq z = z *ℤ z
 

@@ -61,7 +61,7 @@ fn ink_turned(sheet: &mut [u8], shape: Shape, ink: u8, centre: Spot, turn: bool,
     }
 }
 
-// Inks the columns of an ellipse; the rows of the one with its axes exchanged, where turn holds.
+// Inks the columns of an ellipse; the rows of the one with its axes exchanged, where turn holds. It ends where the slope test turns.
 fn sweep(sheet: &mut [u8], shape: Shape, ink: u8, centre: Spot, turn: bool, a: u64, b: u64)
     requires { ⌜ Centred centre × (1 ≤ a) × (a ≤ 16383) × (b ≤ 16383) ⌝ }
     ensures { λ r. ⌜ now (sheet .exit) ≡ paint shape ink (around (unmovedCell centre) (turned turn (columns a b))) (now (sheet .entry)) ⌝ }
@@ -101,12 +101,14 @@ fn circle_on(sheet: &mut [u8], shape: Shape, ink: u8, centre: Spot, r: u64)
     }
 }
 
+// Whether a circle's radius is within its limits.
 fn is_radius(r: u32) -> bool
     ensures { λ d. ⌜ d ≡ radius r ⌝ }
 {
     r <= 16383
 }
 
+// Whether a semi-axis is within its limits.
 fn is_semi_axis(a: u32) -> bool
     ensures { λ r. ⌜ r ≡ semiAxis a ⌝ }
 {
@@ -116,6 +118,7 @@ fn is_semi_axis(a: u32) -> bool
     a <= 16383
 }
 
+// Whether both are.
 fn are_semi_axes(a: u32, b: u32) -> bool
     ensures { λ r. ⌜ r ≡ semiAxes a b ⌝ }
 {
