@@ -1,0 +1,154 @@
+-- A circle from radius 1 up is the ellipse of equal axes; of radius 0 it is its centre.
+use Prim.Native.Nat.{ℕ, zero, suc, _+_, _-_, _*_, _≤_, _<_}
+use mathlib.Core.Path.{_≡_, refl, sym, subst, ap₂, _∙_}
+use mathlib.Core.Logic.{inl, inr}
+use mathlib.Core.Bool.{Bool, false, _&&_, _||_}
+use native.Mathlib.Omega.{arith}
+use native.Mathlib.Nat.{mul-le-mul-left, lt-of-mul-lt-mul-left, le-of-mul-le-mul-left}
+use borrow.Author.Tests.{le-ltb, le-leb}
+use lib.Dec.{T, leb, eqb, leb→le, le→leb, eqb→eq, eqb·suc-zero}
+use lib.IntN.{ℤ, pos, _-ℤ_}
+use lib.Signed.{leZ, ltZ}
+use Rattle.laws.specs.Parts.{up, dn}
+use Rattle.laws.proofs.Ints.{parts, le-parts, lt-parts, to-leZ, to-ltZ}
+use Rattle.laws.proofs.Products.{sq-le, sq-lt-back}
+use Rattle.laws.proofs.Tests.{and-l, and-r, and-i, or-l, or-e, same}
+use Rattle.ring.specs.Ring.{inEighth, circleRule, ellipseRule}
+use Rattle.ring.specs.Inner.{edge, reach, Least, isOffset, columns}
+use Rattle.ring.proofs.Around.{offset→, →offset}
+use Rattle.ring.proofs.Columns.{InColumns, columns→, →columns, columns-and-rows, ellipse-within}
+
+-- what the rule says of an offset (x, y) with y = j + 1
+record Eighth (r x j : ℕ) : Type 0 where
+  pub steep : x ≤ suc j
+  pub low : suc j * j + x * x < r * r
+  pub high : r * r ≤ suc j * (suc j + 1) + x * x
+
+module _ (r x j : ℕ) where
+  rest : ℤ
+  rest = pos (r * r) -ℤ pos (x * x)
+
+  up-rest : up rest ≡ r * r - x * x
+  unfolding rest
+  up-rest = simp parts (omega arith)
+
+  dn-rest : dn rest ≡ x * x - r * r
+  unfolding rest
+  dn-rest = simp parts (omega arith)
+
+  between : Bool
+  between = ltZ (pos (suc j * j)) rest && leZ rest (pos (suc j * (suc j + 1)))
+
+  eighth-suc : inEighth (pos r) (pos x) (pos (suc j)) ≡ (leb x (suc j) && (between || false))
+  unfolding inEighth rest between
+  eighth-suc =
+      let e : suc j - 1 ≡ j = omega arith in
+      simp (le-ltb (suc j) 1 (omega arith), le-leb 1 (suc j) (omega arith), e, eqb·suc-zero)
+
+  eighth→ : T (inEighth (pos r) (pos x) (pos (suc j))) → Eighth r x j
+  unfolding between
+  eighth→ t =
+      let u = subst T eighth-suc t in
+      let h = and-l (leb x (suc j)) (between || false) u in
+      let o : T (between || false) = and-r (leb x (suc j)) (between || false) u in
+      elim (or-e between false o) [
+        | inl p ↦
+            let l = lt-parts (pos (suc j * j)) rest (and-l (ltZ (pos (suc j * j)) rest) (leZ rest (pos (suc j * (suc j + 1)))) p) in
+            let g = le-parts rest (pos (suc j * (suc j + 1))) (and-r (ltZ (pos (suc j * j)) rest) (leZ rest (pos (suc j * (suc j + 1)))) p) in
+            record { steep = leb→le x (suc j) h; low = omega (arith, up-rest, dn-rest); high = omega (arith, up-rest, dn-rest) }
+        | inr p ↦ absurd p
+      ]
+
+  →eighth : Eighth r x j → T (inEighth (pos r) (pos x) (pos (suc j)))
+  unfolding between
+  →eighth i =
+      let h = le→leb x (suc j) (i .steep) in
+      let l = to-ltZ (pos (suc j * j)) rest (omega (arith, up-rest, dn-rest, i .low)) in
+      let g = to-leZ rest (pos (suc j * (suc j + 1))) (omega (arith, up-rest, dn-rest, i .high)) in
+      subst T (sym eighth-suc) (and-i (leb x (suc j)) (between || false) h (or-l between false (and-i (ltZ (pos (suc j * j)) rest) (leZ rest (pos (suc j * (suc j + 1)))) l g)))
+
+  -- y(y − 1) < r² − x² ≤ y(y + 1) is r²(2y − 1)² ≤ 4r²(r² − x²) < r²(2y + 1)²
+  eighth-least : 1 ≤ r → x ≤ r → Eighth r x j → Least (r * r) (reach r r x) (suc j)
+  unfolding edge reach
+  eighth-least h k i =
+      let e : (r * r - x * x) + x * x ≡ r * r = omega (arith, sq-le k) in
+      record {
+        low = λ n l.
+            let g : (2 * n + 1) * (2 * n + 1) ≤ 4 * (r * r - x * x) = omega (arith, sq-le {a = n} {b = j} (omega arith), i .low) in
+            omega (arith, mul-le-mul-left (r * r) g);
+        high =
+            let g : r * r - x * x ≤ suc j * (suc j + 1) = omega (arith, i .high) in
+            omega (arith, mul-le-mul-left (r * r) g, sq-le h);
+      }
+
+  least-eighth : 1 ≤ r → x ≤ r → x ≤ suc j → Least (r * r) (reach r r x) (suc j) → Eighth r x j
+  unfolding edge reach
+  least-eighth h k l n =
+      let o : 1 ≤ r * r = sq-le h in
+      let e : (r * r - x * x) + x * x ≡ r * r = omega (arith, sq-le k) in
+      let lo : (2 * j + 1) * (2 * j + 1) ≤ 4 * (r * r - x * x) = le-of-mul-le-mul-left {k = r * r} (omega (arith, n .low j (omega arith))) o in
+      let hi : 4 * (r * r - x * x) < (2 * suc j + 1) * (2 * suc j + 1) = lt-of-mul-lt-mul-left (r * r) (omega (arith, n .high)) in
+      record { steep = l; low = omega arith; high = omega arith }
+
+-- the offset (x, 0) is in an eighth only of radius 0, and only at x = 0
+eighth-zero : (r x : ℕ) → T (inEighth (pos r) (pos x) (pos 0)) → (x ≡ 0) × (r ≡ 0)
+unfolding inEighth
+eighth-zero r x t =
+    let l = leb→le x 0 (and-l (leb x 0) (eqb r 0) t) in
+    (omega arith, eqb→eq r 0 (and-r (leb x 0) (eqb r 0) t))
+
+-- the column 0 does not meet the row 0
+not-zero : (r x : ℕ) → 1 ≤ r → x ≤ 0 → Least (r * r) (reach r r x) 0 → ⊥
+unfolding edge reach
+not-zero r x h l n =
+    let z : x ≡ 0 = omega arith in
+    let e : r * r - x * x ≡ r * r = rw z (omega arith) in
+    let g = rw e at (n .high) in
+    omega (arith, mul-le-mul-left (r * r) (sq-le h))
+
+-- an eighth's cells are those of the column rule with equal axes
+eighth-is : (r : ℕ) → 1 ≤ r → (x y : ℕ) → columns r r x y ≡ inEighth (pos r) (pos x) (pos y)
+eighth-is r h x y = same (columns r r x y) (inEighth (pos r) (pos x) (pos y)) (λ t. to y (columns→ r r x y t)) (from y)
+  where
+    steep : (y : ℕ) → InColumns r r x y → x ≤ y
+    steep y i = le-of-mul-le-mul-left {k = r * r} (i .sloped) (sq-le h)
+
+    to : (y : ℕ) → InColumns r r x y → T (inEighth (pos r) (pos x) (pos y))
+    to zero i = absurd (not-zero r x h (steep 0 i) (i .least))
+    to (suc j) i = →eighth r x j (least-eighth r x j h (i .within) (steep (suc j) i) (i .least))
+
+    from : (y : ℕ) → T (inEighth (pos r) (pos x) (pos y)) → T (columns r r x y)
+    from zero t = absurd (omega (arith, eighth-zero r x t))
+    from (suc j) t =
+        let i = eighth→ r x j t in
+        let k : x < r = sq-lt-back x r (omega (arith, i .low)) in
+        →columns r r x (suc j) (record { within = omega arith; sloped = mul-le-mul-left (r * r) (i .steep); least = eighth-least r x j h (omega arith) i })
+
+-- an ellipse of equal axes is the circle
+pub circle-is-ellipse : (r : ℕ) → 1 ≤ r → (u v : ℕ) → ellipseRule r r u v ≡ circleRule r u v
+unfolding circleRule
+circle-is-ellipse r h u v = sym (columns-and-rows r r h h u v) ∙ ap₂ _||_ (eighth-is r h u v) (eighth-is r h v u)
+
+-- the circle of radius 0 is its centre
+pub circle-is-centre : (u v : ℕ) → isOffset 0 0 u v ≡ circleRule 0 u v
+unfolding circleRule
+circle-is-centre u v = same (isOffset 0 0 u v) (inEighth (pos 0) (pos u) (pos v) || inEighth (pos 0) (pos v) (pos u)) to from
+  where
+    at : (x y : ℕ) → T (inEighth (pos 0) (pos x) (pos y)) → (x ≡ 0) × (y ≡ 0)
+    at x zero t = (eighth-zero 0 x t .0, refl)
+    at x (suc j) t = absurd (omega (arith, eighth→ 0 x j t .low))
+
+    to : T (isOffset 0 0 u v) → T (inEighth (pos 0) (pos u) (pos v) || inEighth (pos 0) (pos v) (pos u))
+    to t = let e = offset→ 0 0 u v t in unfold inEighth in rw (e .0, e .1) tt
+
+    from : T (inEighth (pos 0) (pos u) (pos v) || inEighth (pos 0) (pos v) (pos u)) → T (isOffset 0 0 u v)
+    from t =
+        elim (or-e (inEighth (pos 0) (pos u) (pos v)) (inEighth (pos 0) (pos v) (pos u)) t) [
+          | inl t ↦ let e = at u v t in →offset 0 0 u v (e .0) (e .1)
+          | inr t ↦ let e = at v u t in →offset 0 0 u v (e .1) (e .0)
+        ]
+
+-- a circle's cells are within its radius
+pub circle-within : (r x y : ℕ) → T (circleRule r x y) → (x ≤ r) × (y ≤ r)
+circle-within zero x y t = let e = offset→ 0 0 x y (subst T (sym (circle-is-centre x y)) t) in (omega arith, omega arith)
+circle-within (suc r) x y t = ellipse-within (suc r) (suc r) x y (subst T (sym (circle-is-ellipse (suc r) (omega arith) x y)) t)

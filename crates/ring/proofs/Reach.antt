@@ -1,0 +1,29 @@
+-- 4b²(a² − x²), the number that the nearest y of column x is measured by.
+use Prim.Native.Nat.{ℕ, _*_, _≤_, _<_}
+use mathlib.Core.Logic.{inl, inr}
+use native.Mathlib.Omega.{arith}
+use native.Mathlib.Nat.{mul-le-mul, mul-le-mul-left, sub-le-sub-left, sub-le}
+use Rattle.laws.proofs.Products.{lt-or-ge, sq-le}
+use Rattle.ring.specs.Inner.{edge, reach, Least}
+
+pub reach-falls : (a b x z : ℕ) → x ≤ z → reach a b z ≤ reach a b x
+unfolding reach
+reach-falls a b x z h = mul-le-mul-left (4 * (b * b)) (sub-le-sub-left (sq-le {a = x} {b = z} h) (a * a))
+
+reach-most : (a b x : ℕ) → reach a b x ≤ 4 * (b * b) * (a * a)
+unfolding reach
+reach-most a b x = mul-le-mul-left (4 * (b * b)) (sub-le (a * a) (x * x))
+
+-- the product stays below 2^59
+pub reach-small : (a b x : ℕ) → a ≤ 16383 → b ≤ 16383 → reach a b x < 576460752303423488
+reach-small a b x h k =
+    omega (arith, reach-most a b x, mul-le-mul {n₁ = 4 * (b * b)} {m₁ = a * a} {n₂ = 1073610756} {m₂ = 268402689} (omega (arith, sq-le k)) (sq-le h))
+
+-- so the nearest y is at most b
+pub reach-below : (a b x : ℕ) → 1 ≤ a → reach a b x < edge (a * a) b
+unfolding edge
+reach-below a b x h = omega (arith, reach-most a b x, sq-le h)
+
+pub at-most : (a b x y : ℕ) → 1 ≤ a → Least (a * a) (reach a b x) y → y ≤ b
+at-most a b x y h n =
+    elim (lt-or-ge b y) [ inl g ↦ absurd (omega (arith, n .low b g, reach-below a b x h)) | inr g ↦ g ]

@@ -1,0 +1,66 @@
+-- Document 01, "Circles and ellipses".
+use Prim.Native.Nat.{ℕ}
+use mathlib.Core.Bool.{Bool, _&&_, _||_}
+use lib.IntN.{ℤ, pos, natAbs, _+ℤ_, _-ℤ_, _*ℤ_}
+use lib.Signed.{leZ, ltZ}
+use Rattle.laws.specs.Parts.{eqZ}
+use Rattle.sheet.specs.declared.Cell.{Cell}
+
+-- how far a coordinate is from the centre's, in either direction
+abbrev pub away : ℤ → ℤ → ℕ
+away z centre = natAbs (z -ℤ centre)
+
+-- all cells (±x, ±y) from the centre, 0 ≤ x and 0 ≤ y, for which the rule holds
+unfoldable pub around : Cell → (ℕ → ℕ → Bool) → Cell → Bool
+around c rule d = rule (away (d .x) (c .x)) (away (d .y) (c .y))
+
+-- z²
+abbrev pub sq : ℤ → ℤ
+sq z = z *ℤ z
+
+-- x ≤ y and either y ≥ 1 and y(y − 1) < r² − x² ≤ y(y + 1), or y = 0 and r = 0
+unfoldable pub inEighth : ℤ → ℤ → ℤ → Bool
+inEighth r x y =
+    leZ x y
+    && ((leZ (pos 1) y
+    && ltZ (y *ℤ (y -ℤ pos 1)) (sq r -ℤ sq x)
+    && leZ (sq r -ℤ sq x) (y *ℤ (y +ℤ pos 1)))
+    || (eqZ y (pos 0) && eqZ r (pos 0)))
+
+-- (x, y) or (y, x) is such
+unfoldable pub circleRule : ℕ → ℕ → ℕ → Bool
+circleRule r x y = inEighth (pos r) (pos x) (pos y) || inEighth (pos r) (pos y) (pos x)
+
+-- Circle of radius r.
+abbrev pub onCircle : Cell → ℕ → Cell → Bool
+onCircle c r = around c (circleRule r)
+
+-- b²x ≤ a²y
+unfoldable pub slope : ℤ → ℤ → ℤ → ℤ → Bool
+slope a b x y = leZ (sq b *ℤ x) (sq a *ℤ y)
+
+-- 4b²(a² − x²) < a²(2y + 1)², and y = 0 or a²(2y − 1)² ≤ 4b²(a² − x²): of the column's cells, y is the nearest to the ellipse
+unfoldable pub nearest : ℤ → ℤ → ℤ → ℤ → Bool
+nearest a b x y =
+    ltZ (pos 4 *ℤ sq b *ℤ (sq a -ℤ sq x)) (sq a *ℤ sq (pos 2 *ℤ y +ℤ pos 1))
+    && (eqZ y (pos 0)
+    || leZ (sq a *ℤ sq (pos 2 *ℤ y -ℤ pos 1)) (pos 4 *ℤ sq b *ℤ (sq a -ℤ sq x)))
+
+-- column rule
+unfoldable pub inColumn : ℤ → ℤ → ℤ → ℤ → Bool
+inColumn a b x y = slope a b x y && nearest a b x y
+
+-- row rule: the column rule with the axes exchanged
+abbrev pub inRow : ℤ → ℤ → ℤ → ℤ → Bool
+inRow a b x y = inColumn b a y x
+
+-- x ≤ a, y ≤ b, and one of these holds
+unfoldable pub ellipseRule : ℕ → ℕ → ℕ → ℕ → Bool
+ellipseRule a b x y =
+    leZ (pos x) (pos a)
+    && leZ (pos y) (pos b)
+    && (inColumn (pos a) (pos b) (pos x) (pos y) || inRow (pos a) (pos b) (pos x) (pos y))
+
+-- Ellipse of semi-axes a, b.
+abbrev pub onEllipse : Cell → ℕ → ℕ → Cell → Bool
+onEllipse c a b = around c (ellipseRule a b)

@@ -1,0 +1,172 @@
+// Circles and ellipses.
+ghost use mathlib.Core.Path.{_≡_};
+ghost use Prim.Native.Nat.{_≤_, _<_};
+ghost use lib.ListN.{length};
+ghost use Rattle.sheet.specs.Sheet.{paint};
+ghost use Rattle.sheet.specs.Reply.{settled};
+ghost use Rattle.sheet.specs.Drawn.{toldDrawn};
+ghost use Rattle.sheet.specs.Inner.{unmovedCell};
+ghost use Rattle.ring.specs.Ring.{around, circleRule, ellipseRule, onCircle, onEllipse};
+ghost use Rattle.ring.specs.Answer.{radius, semiAxis, semiAxes, circleAnswer, ellipseAnswer};
+ghost use Rattle.ring.specs.Inner.{edge, Least, Centred, isOffset, turned, columns};
+use sheet::Cell;
+use sheet::Drawn;
+use sheet::Refusal;
+use sheet::Shape;
+use sheet::Spot;
+
+// The least y with n < aa(2y + 1)², found by steps down from a y that is no less.
+fn stepped_down(aa: u64, n: u64, from: u64) -> u64
+    requires { ⌜ (aa ≤ 268402689) × (from ≤ 16383) × (n < edge aa from) ⌝ }
+    ensures { λ r. ⌜ Least aa n r × (r ≤ from) ⌝ }
+{
+    let mut y = from;
+    while 0 < y {
+        let p = y - 1;
+        let k = 2 * p + 1;
+        if aa * (k * k) <= n {
+            return y;
+        }
+        y = p;
+    }
+    y
+}
+
+// Inks the four cells (±x, ±y) from the centre.
+fn ink_four(sheet: &mut [u8], shape: Shape, ink: u8, centre: Spot, x: u32, y: u32)
+    requires { ⌜ Centred centre × (x ≤ 16383) × (y ≤ 16383) ⌝ }
+    ensures { λ r. ⌜ now (sheet .exit) ≡ paint shape ink (around (unmovedCell centre) (isOffset x y)) (now (sheet .entry)) ⌝ }
+{
+    let left = centre.x - x;
+    let right = centre.x + x;
+    let above = centre.y - y;
+    let below = centre.y + y;
+    sheet::ink_at(sheet, shape, ink, Spot { x: left, y: above });
+    sheet::ink_at(sheet, shape, ink, Spot { x: right, y: above });
+    sheet::ink_at(sheet, shape, ink, Spot { x: left, y: below });
+    sheet::ink_at(sheet, shape, ink, Spot { x: right, y: below });
+}
+
+// Inks the four cells (±x, ±y) from the centre, or (±y, ±x) where turn holds.
+fn ink_turned(sheet: &mut [u8], shape: Shape, ink: u8, centre: Spot, turn: bool, x: u64, y: u64)
+    requires { ⌜ Centred centre × (x ≤ 16383) × (y ≤ 16383) ⌝ }
+    ensures { λ r. ⌜ now (sheet .exit) ≡ paint shape ink (around (unmovedCell centre) (turned turn (isOffset x y))) (now (sheet .entry)) ⌝ }
+{
+    let along = x as u32;
+    let across = y as u32;
+    if turn {
+        ink_four(sheet, shape, ink, centre, across, along);
+    } else {
+        ink_four(sheet, shape, ink, centre, along, across);
+    }
+}
+
+// Inks the columns of an ellipse; the rows of the one with its axes exchanged, where turn holds. It ends where the slope test turns.
+fn sweep(sheet: &mut [u8], shape: Shape, ink: u8, centre: Spot, turn: bool, a: u64, b: u64)
+    requires { ⌜ Centred centre × (1 ≤ a) × (a ≤ 16383) × (b ≤ 16383) ⌝ }
+    ensures { λ r. ⌜ now (sheet .exit) ≡ paint shape ink (around (unmovedCell centre) (turned turn (columns a b))) (now (sheet .entry)) ⌝ }
+{
+    let aa = a * a;
+    let bb = b * b;
+    let mut y = b;
+    let mut x: u64 = 0;
+    while x <= a {
+        y = stepped_down(aa, 4 * bb * (aa - x * x), y);
+        if aa * y < bb * x {
+            return;
+        }
+        ink_turned(sheet, shape, ink, centre, turn, x, y);
+        x += 1;
+    }
+}
+
+// Inks the ellipse about the centre.
+fn ellipse_on(sheet: &mut [u8], shape: Shape, ink: u8, centre: Spot, a: u64, b: u64)
+    requires { ⌜ Centred centre × (1 ≤ a) × (a ≤ 16383) × (1 ≤ b) × (b ≤ 16383) ⌝ }
+    ensures { λ r. ⌜ now (sheet .exit) ≡ paint shape ink (around (unmovedCell centre) (ellipseRule a b)) (now (sheet .entry)) ⌝ }
+{
+    sweep(sheet, shape, ink, centre, false, a, b);
+    sweep(sheet, shape, ink, centre, true, b, a);
+}
+
+// Inks the circle about the centre: from radius 1 up it is the ellipse of equal axes.
+fn circle_on(sheet: &mut [u8], shape: Shape, ink: u8, centre: Spot, r: u64)
+    requires { ⌜ Centred centre × (r ≤ 16383) ⌝ }
+    ensures { λ d. ⌜ now (sheet .exit) ≡ paint shape ink (around (unmovedCell centre) (circleRule r)) (now (sheet .entry)) ⌝ }
+{
+    if r == 0 {
+        ink_four(sheet, shape, ink, centre, 0, 0);
+    } else {
+        ellipse_on(sheet, shape, ink, centre, r, r);
+    }
+}
+
+// Whether a circle's radius is within its limits.
+fn is_radius(r: u32) -> bool
+    ensures { λ d. ⌜ d ≡ radius r ⌝ }
+{
+    r <= 16383
+}
+
+// Whether a semi-axis is within its limits.
+fn is_semi_axis(a: u32) -> bool
+    ensures { λ r. ⌜ r ≡ semiAxis a ⌝ }
+{
+    if a < 1 {
+        return false;
+    }
+    a <= 16383
+}
+
+// Whether both are.
+fn are_semi_axes(a: u32, b: u32) -> bool
+    ensures { λ r. ⌜ r ≡ semiAxes a b ⌝ }
+{
+    if !is_semi_axis(a) {
+        return false;
+    }
+    is_semi_axis(b)
+}
+
+// Draws the circle of radius r about the centre.
+pub fn draw_circle(sheet: &mut [u8], shape: Shape, ink: u8, centre: Cell, r: u32) -> Drawn
+    ensures { λ d. ⌜ toldDrawn d ≡ circleAnswer shape (length (now (sheet .entry))) centre r ⌝ }
+    ensures { λ d. ⌜ now (sheet .exit) ≡ settled (circleAnswer shape (length (now (sheet .entry))) centre r) (paint shape ink (onCircle centre r) (now (sheet .entry))) (now (sheet .entry)) ⌝ }
+{
+    if !sheet::fits(shape, sheet.len()) {
+        return Drawn::Refused(Refusal::Size);
+    }
+    if !sheet::in_limits(centre) {
+        return Drawn::Refused(Refusal::Coordinate);
+    }
+    if !is_radius(r) {
+        return Drawn::Refused(Refusal::Radius);
+    }
+    circle_on(sheet, shape, ink, sheet::lift_cell(centre), r as u64);
+    Drawn::Done
+}
+
+// Draws the ellipse of semi-axes a and b about the centre.
+pub fn draw_ellipse(sheet: &mut [u8], shape: Shape, ink: u8, centre: Cell, a: u32, b: u32) -> Drawn
+    ensures { λ r. ⌜ toldDrawn r ≡ ellipseAnswer shape (length (now (sheet .entry))) centre a b ⌝ }
+    ensures { λ r. ⌜ now (sheet .exit) ≡ settled (ellipseAnswer shape (length (now (sheet .entry))) centre a b) (paint shape ink (onEllipse centre a b) (now (sheet .entry))) (now (sheet .entry)) ⌝ }
+{
+    if !sheet::fits(shape, sheet.len()) {
+        return Drawn::Refused(Refusal::Size);
+    }
+    if !sheet::in_limits(centre) {
+        return Drawn::Refused(Refusal::Coordinate);
+    }
+    if !are_semi_axes(a, b) {
+        return Drawn::Refused(Refusal::Radius);
+    }
+    ellipse_on(
+        sheet,
+        shape,
+        ink,
+        sheet::lift_cell(centre),
+        a as u64,
+        b as u64,
+    );
+    Drawn::Done
+}
