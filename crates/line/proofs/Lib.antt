@@ -1,1 +1,4 @@
 pub mod Bridge
+pub mod Fixed
+mod Along
+mod Listed

@@ -2,3 +2,5 @@ pub mod Rule
 pub mod Listing
 pub mod Draw
 pub mod Course
+pub mod Fixed
+pub mod Along

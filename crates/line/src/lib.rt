@@ -10,6 +10,10 @@ use sheet::Refusal;
 use sheet::Shape;
 use sheet::Spot;
 
+mod listing;
+
+pub use listing::list_line;
+
 // A line on the moved plane, from its lesser end: where it starts, whether it goes right, whether its longer extent is that of y, and both extents.
 pub struct Course {
     pub x: u32,

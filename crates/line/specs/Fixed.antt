@@ -1,0 +1,10 @@
+-- The steps along the shorter extent in parts of 2^32. Inner contracts only: no public contract cites this module.
+use Prim.Native.Nat.{ℕ, _+_, _*_, _/_}
+
+-- the shorter extent over the longer, rounded down
+unfoldable pub slope : ℕ → ℕ → ℕ
+slope l s = s * 4294967295 / l
+
+-- what n of them come to, with a half and a little more: the whole part is `rise l s n`
+unfoldable pub tally : ℕ → ℕ → ℕ → ℕ
+tally l s n = n * slope l s + (2147483648 + 2 * l)
