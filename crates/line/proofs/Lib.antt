@@ -2,3 +2,4 @@ pub mod Bridge
 pub mod Fixed
 mod Along
 mod Listed
+mod ListReplies

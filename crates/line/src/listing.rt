@@ -10,7 +10,7 @@ ghost use Rattle.sheet.specs.Inner.{unmoved};
 ghost use Rattle.line.specs.Listing.{listAnswer, listedOver};
 ghost use Rattle.line.specs.Course.{Runs};
 ghost use Rattle.line.specs.Fixed.{slope};
-ghost use Rattle.line.specs.Along.{over, gone, reached, along, Along, courseCell};
+ghost use Rattle.line.specs.Along.{over, gone, reached, along, Bounded, courseCell};
 use crate::Course;
 use crate::chosen;
 use crate::course_of;
@@ -47,7 +47,7 @@ fn chosen_parts(first: bool, a: u64, b: u64) -> u64
 
 // The coordinate n steps of f from m.
 fn reached_at(up: bool, m: u32, l: u32, f: u64, n: u32) -> u64
-    requires { ⌜ Along m l f × (n ≤ l) ⌝ }
+    requires { ⌜ Bounded m l f × (n ≤ l) ⌝ }
     ensures { λ r. ⌜ r ≡ reached up m (gone l f n) ⌝ }
 {
     let steps = n as u64 * f + (2147483648 + 2 * l as u64);
@@ -61,7 +61,7 @@ fn reached_at(up: bool, m: u32, l: u32, f: u64, n: u32) -> u64
 
 // Lists one coordinate of each cell, f parts from the one to the next.
 fn list_along(list: &mut [i32], first: bool, up: bool, m: u32, l: u32, f: u64)
-    requires { ⌜ Along m l f × (l < length (now list)) ⌝ }
+    requires { ⌜ Bounded m l f × (l < length (now list)) ⌝ }
     ensures { λ r. ⌜ now (list .exit) ≡ over (along first up m l f) (l + 1) (now (list .entry)) ⌝ }
 {
     let cells = l as usize + 1;

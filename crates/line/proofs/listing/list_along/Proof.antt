@@ -1,11 +1,11 @@
 -- `line::listing::list_along` meets its contract.
 use Prim.Native.Nat.{ℕ, _+_, _-_, _≤_, _<_}
-use mathlib.Core.Path.{_≡_, refl, ap, _∙_}
+use mathlib.Core.Path.{_≡_, ap, _∙_}
 use native.Mathlib.Omega.{arith}
 use lib.ListN.{length}
 use denote.Ref.{now}
 use Rattle.line.specs.Along.{over, along}
-use Rattle.line.proofs.Along.{Running, begins, turn, first-place, counted-le, gain-le, within, over-length}
+use Rattle.line.proofs.Along.{Running, begins, turn, number-first, number-le, gain-le, within, over-length}
 use Rattle.line.proofs.listing.list_along.Statement.{statement}
 use Rattle.line.proofs.listing.list_along.Tie as tie
 
@@ -34,7 +34,7 @@ reached-at-requires c κs =
     let start = c .before .before in
     let a = start .args in
     let n = c .chosen .result in
-    (start .pre .0, omega (arith, first-place (a .first) (a .up) (a .m) (a .l) (a .f) n (c .chosen .ensures), counted-le (a .first) (a .l) 0 (omega arith)))
+    (start .pre .0, omega (arith, number-first (a .first) (a .l) n (c .chosen .ensures), number-le (a .first) (a .l) 0 (omega arith)))
 
 loop-holds : tie.Need-loop-holds Inv-loop μ-loop
 loop-holds c =
@@ -80,7 +80,7 @@ loop-again c =
     let start = gains-at .before in
     let a = start .args in
     turn (a .first) (a .up) (a .m) (a .l) (a .f) (start .pre .0) (now (a .list)) (k .list) (k .t) (k .i) (start .pre .1) (k .inv) (c .before .before .before .loop-test .taken)
-    (gains-at .chosen-parts .result) (a .f - gains-at .chosen-parts .result) _ (gains-at .chosen-parts .ensures) refl (c .before .put .ensures)
+    (gains-at .chosen-parts .result) _ (gains-at .chosen-parts .ensures) (c .before .put .ensures)
 
 same-length : tie.Need-same-length Inv-loop μ-loop
 same-length c =

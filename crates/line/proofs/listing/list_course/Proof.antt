@@ -1,8 +1,7 @@
 -- `line::listing::list_course` meets its contract.
 use mathlib.Core.Path.{_∙_}
-use native.Mathlib.Omega.{arith}
 use denote.Ref.{now}
-use Rattle.line.proofs.Listed.{x-along, y-along, x-over, y-over}
+use Rattle.line.proofs.Listed.{x-bounded, y-bounded, x-over, y-over}
 use borrow.Author.Needs.{needs}
 use Rattle.line.proofs.listing.list_course.Statement.{statement}
 use Rattle.line.proofs.listing.list_course.Tie as tie
@@ -21,7 +20,7 @@ list-along-requires c κs =
     let slope-at = c .before .before in
     let a = slope-at .before .args in
     let p = slope-at .before .pre in
-    (x-along (a .course) (p .0) (slope-at .slope-of .result) (slope-at .slope-of .ensures) (c .chosen-parts .result) (c .chosen-parts .ensures), p .1)
+    (x-bounded (a .course) (p .0) (slope-at .slope-of .result) (slope-at .slope-of .ensures) (c .chosen-parts .result) (c .chosen-parts .ensures), p .1)
 
 chosen-parts-requires-2 : tie.Need-chosen-parts-requires-2
 chosen-parts-requires-2 c κs = search needs
@@ -31,7 +30,7 @@ list-along-requires-2 c κs =
     let slope-at = c .before .before .before .before .before .before in
     let a = slope-at .before .args in
     let p = slope-at .before .pre in
-    (y-along (a .course) (p .0) (slope-at .slope-of .result) (slope-at .slope-of .ensures) (c .chosen-parts2 .result) (c .chosen-parts2 .ensures), p .2)
+    (y-bounded (a .course) (p .0) (slope-at .slope-of .result) (slope-at .slope-of .ensures) (c .chosen-parts2 .result) (c .chosen-parts2 .ensures), p .2)
 
 same-length : tie.Need-same-length
 same-length c = search needs

@@ -1,15 +1,13 @@
 -- `line::listing::list_line` meets its contract.
-use Prim.Native.Nat.{_+_, _<_}
-use mathlib.Core.Path.{_≡_, _∙_}
-use mathlib.Core.Bool.{true, _&&_}
+use mathlib.Core.Path.{_≡_}
+use mathlib.Core.Bool.{_&&_}
 use native.Mathlib.Omega.{arith}
-use lib.Dec.{leb}
 use lib.ListN.{length}
 use denote.Ref.{now}
 use Rattle.laws.proofs.Tests.{no, yes}
 use Rattle.sheet.specs.Sheet.{inLimits}
 use Rattle.line.specs.Course.{Runs}
-use Rattle.line.proofs.Listed.{rooms, list-coordinate, runs, list-room, list-done}
+use Rattle.line.proofs.ListReplies.{rooms, list-coordinate, runs, list-room, list-done}
 use borrow.Author.Needs.{needs}
 use Rattle.line.proofs.listing.list_line.Statement.{statement}
 use Rattle.line.proofs.listing.list_line.Tie as tie
@@ -48,9 +46,9 @@ returns-2 c =
     let first = second .before in
     let limited = first .before in
     let a = limited .before .before .before .args in
-    list-room (a .from) (a .to) (now (a .xs)) (now (a .ys)) (first .lift-cell .result) (second .lift-cell2 .result) (course-at .course-of .result)
+    list-room (a .from) (a .to) (first .lift-cell .result) (second .lift-cell2 .result) (course-at .course-of .result)
     (yes _ _ (tested (limited .before)) (limited .if1 .left)) (first .lift-cell .ensures) (second .lift-cell2 .ensures) (course-at .course-of .ensures)
-    (no _ _ (c .before .has-room .ensures) (c .if2 .taken))
+    (now (a .xs)) (now (a .ys)) (no _ _ (c .before .has-room .ensures) (c .if2 .taken))
 
 is-lesser-requires : tie.Need-is-lesser-requires
 is-lesser-requires c κs = search needs
@@ -62,7 +60,7 @@ runs-at c =
     let first = second .before in
     let limited = first .before in
     let a = limited .before .before .before .args in
-    runs (a .from) (a .to) (now (a .xs)) (now (a .ys)) (first .lift-cell .result) (second .lift-cell2 .result) (c .course-of .result)
+    runs (a .from) (a .to) (first .lift-cell .result) (second .lift-cell2 .result) (c .course-of .result)
     (yes _ _ (tested (limited .before)) (limited .if1 .left)) (first .lift-cell .ensures) (second .lift-cell2 .ensures) (c .course-of .ensures)
 
 list-course-requires : tie.Need-list-course-requires
@@ -92,10 +90,10 @@ returns-3 c =
     let first = second .before in
     let limited = first .before in
     let a = limited .before .before .before .args in
-    list-done (a .from) (a .to) (now (a .xs)) (now (a .ys)) (first .lift-cell .result) (second .lift-cell2 .result) (course-at .course-of .result)
+    list-done (a .from) (a .to) (first .lift-cell .result) (second .lift-cell2 .result) (course-at .course-of .result)
     (yes _ _ (tested (limited .before)) (limited .if1 .left)) (first .lift-cell .ensures) (second .lift-cell2 .ensures) (course-at .course-of .ensures)
-    (yes _ _ (roomy .before .has-room .ensures) (roomy .if2 .left))
-    (ordered .is-lesser .result) (ordered .is-lesser .ensures) _ _ (listed .list-course .ensures .0) (listed .list-course .ensures .1)
+    (now (a .xs)) (now (a .ys)) _ _ (ordered .is-lesser .result) (yes _ _ (roomy .before .has-room .ensures) (roomy .if2 .left)) (ordered .is-lesser .ensures)
+    (listed .list-course .ensures .0) (listed .list-course .ensures .1)
 
 pub list-line-spec : {M : Type 1} → statement M
 list-line-spec =

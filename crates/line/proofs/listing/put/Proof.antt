@@ -1,8 +1,6 @@
 -- `line::listing::put` meets its contract.
 use Prim.Native.Nat.{_<_, _^_}
-use mathlib.Core.Path.{_≡_, ap}
 use native.Mathlib.Omega.{arith}
-use lib.ListN.{set}
 use mir.Syntax.{w32}
 use mir.Val.{SFits, hbits}
 use borrow.Author.Needs.{needs}

@@ -1,6 +1,5 @@
 -- `line::listing::reached_at` meets its contract.
 use native.Mathlib.Omega.{arith}
-use mathlib.Core.Path.{_≡_, refl}
 use Prim.Native.Nat.{_≤_}
 use Rattle.line.specs.Along.{gone}
 use Rattle.line.proofs.Along.{gone-le}
