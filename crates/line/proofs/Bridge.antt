@@ -15,7 +15,7 @@ use Rattle.sheet.specs.Sheet.{coordinate, inLimits}
 use Rattle.sheet.specs.Inner.{moved, movedCell, unmoved, unmovedCell, Moved}
 use Rattle.sheet.specs.declared.Cell.{Cell}
 use Rattle.sheet.specs.declared.Spot.{Spot}
-use Rattle.sheet.proofs.Limits.{Lifted, LiftedCell, lifted-cell}
+use Rattle.sheet.proofs.Limits.{LiftedCell, stands-parts}
 use Rattle.line.specs.Rule.{lesser, wide, tall, longer, shorter, long, short, steep, rise, toward, fromLesser, nth}
 use Rattle.line.specs.Course.{gap, stepped, spotAt, lesserSpot, courseFrom, courseOf, Runs}
 use Rattle.line.specs.declared.Course.{Course}
@@ -24,28 +24,24 @@ use Rattle.line.specs.declared.Course.{Course}
 abbrev Stands : ℕ → ℤ → Type 0
 Stands m z = unmoved m ≡ z
 
--- the same, as `omega` reads it
-stands : (m : ℕ) (z : ℤ) → Stands m z → m + dn z ≡ up z + 65536
-stands m z e = subst (λ (w : ℤ). m + dn w ≡ up w + 65536) e (simp parts (omega arith))
-
 -- orders of moved numbers are orders of what they stand for
 module _ (m n : ℕ) (z w : ℤ) (e : Stands m z) (f : Stands n w) where
   same-lt : ltb m n ≡ ltZ z w
   same-lt =
-      let p = stands m z e in
-      let q = stands n w f in
+      let p = stands-parts m z e in
+      let q = stands-parts n w f in
       same (ltb m n) (ltZ z w) (λ t. to-ltZ z w (omega (arith, ltb→lt m n t))) (λ t. lt→ltb m n (omega (arith, lt-parts z w t)))
 
   same-le : leb m n ≡ leZ z w
   same-le =
-      let p = stands m z e in
-      let q = stands n w f in
+      let p = stands-parts m z e in
+      let q = stands-parts n w f in
       same (leb m n) (leZ z w) (λ t. to-leZ z w (omega (arith, leb→le m n t))) (λ t. le→leb m n (omega (arith, le-parts z w t)))
 
   same-eq : eqb m n ≡ eqZ z w
   same-eq =
-      let p = stands m z e in
-      let q = stands n w f in
+      let p = stands-parts m z e in
+      let q = stands-parts n w f in
       same (eqb m n) (eqZ z w)
       (λ t. let g : m ≡ n = eqb→eq m n t in subst (λ (v : ℤ). T (eqZ z v)) (sym e ∙ ap unmoved g ∙ f) (eqZ-refl z))
       (λ t. eqb-of m n (omega (arith, from-≡ℤ z w (eqZ→≡ z w t))))
@@ -53,8 +49,8 @@ module _ (m n : ℕ) (z w : ℤ) (e : Stands m z) (f : Stands n w) where
   -- and so are distances
   same-gap : gap m n ≡ natAbs (w -ℤ z)
   same-gap =
-      let p = stands m z e in
-      let q = stands n w f in
+      let p = stands-parts m z e in
+      let q = stands-parts n w f in
       simp parts (omega (arith, one-zero z, one-zero w))
 
   -- steps
@@ -62,8 +58,8 @@ module _ (m n : ℕ) (z w : ℤ) (e : Stands m z) (f : Stands n w) where
   same-step k l = rw same-le (by (leZ z w))
     where
       by : (t : Bool) → unmoved (stepped t m k) ≡ cond t (z +ℤ pos k) (z -ℤ pos k)
-      by true = let p = stands m z e in to-≡ℤ _ _ (simp parts (omega arith))
-      by false = let p = stands m z e in to-≡ℤ _ _ (simp parts (omega arith))
+      by true = let p = stands-parts m z e in to-≡ℤ _ _ (simp parts (omega arith))
+      by false = let p = stands-parts m z e in to-≡ℤ _ _ (simp parts (omega arith))
 
 -- distances go both ways
 gap-comm : (m n : ℕ) → gap m n ≡ gap n m

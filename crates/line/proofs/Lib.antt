@@ -1,5 +1,11 @@
+pub mod Along
+pub mod Answers
 pub mod Bridge
 pub mod Fixed
-mod Along
-mod Listed
-mod ListReplies
+pub mod Hops
+pub mod Least
+pub mod ListReplies
+pub mod Listed
+pub mod Marked
+pub mod Ranges
+pub mod Walking

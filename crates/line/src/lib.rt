@@ -1,17 +1,13 @@
 // Lines: the drawing, the listing and the pen, all by one rule.
 ghost use mathlib.Core.Path.{_≡_};
-ghost use Prim.Native.Nat.{_+_, _-_, _≤_};
 ghost use mathlib.Core.Bool.{cond};
-ghost use Rattle.sheet.specs.Inner.{Moved};
-ghost use Rattle.line.specs.Course.{gap, stepped, lesserSpot, courseFrom, courseOf, Runs, spotAt};
-use sheet::Cell;
-use sheet::Counted;
-use sheet::Refusal;
-use sheet::Shape;
+ghost use Rattle.line.specs.Course.{gap, lesserSpot, courseFrom, courseOf};
 use sheet::Spot;
 
+mod draw;
 mod listing;
 
+pub use draw::draw_line;
 pub use listing::list_line;
 
 // A line on the moved plane, from its lesser end: where it starts, whether it goes right, whether its longer extent is that of y, and both extents.

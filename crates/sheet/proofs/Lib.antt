@@ -1,6 +1,7 @@
 pub mod Cells
 pub mod Places
 pub mod Paint
+pub mod Count
 pub mod Limits
 pub mod Marks
 mod Refused

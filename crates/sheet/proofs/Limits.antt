@@ -16,7 +16,7 @@ use Rattle.laws.specs.Parts.{up, dn}
 use Rattle.laws.proofs.Ints.{le-parts, one-zero, parts, to-≡ℤ, up-sub, dn-sub, is-leZ, no-leZ}
 use Rattle.laws.proofs.Tests.{and-l, and-r, is-true, from-true}
 use Rattle.sheet.specs.Sheet.{size, bytes, fits, coordinate, inLimits, cellOf}
-use Rattle.sheet.specs.Inner.{moved, unmoved, movedCell, unmovedCell, lowered, Moved, Sheet}
+use Rattle.sheet.specs.Inner.{moved, unmoved, movedCell, unmovedCell, lowered, loweredCell, Moved, Sheet}
 use Rattle.sheet.specs.declared.Cell.{Cell}
 use Rattle.sheet.specs.declared.Shape.{Shape}
 use Rattle.sheet.specs.declared.Spot.{Spot}
@@ -59,6 +59,10 @@ limit-below z l = simp (no-leZ (negsuc 16383) z (omega (arith, one-zero z)))
 pub limit-above : (z : ℤ) → 16383 < up z → coordinate z ≡ false
 unfolding coordinate
 limit-above z l = simp (is-leZ (negsuc 16383) z (omega (arith, one-zero z)), no-leZ z (pos 16383) (omega (arith, one-zero z)))
+
+-- what a moved number stands for, by its parts
+pub stands-parts : (m : ℕ) (z : ℤ) → unmoved m ≡ z → up z + 65536 ≡ dn z + m
+stands-parts m z e = subst (λ (w : ℤ). up w + 65536 ≡ dn w + m) e (simp parts (omega arith))
 
 -- what the machine reads back from the bits of a coordinate
 pub moved-back : (z : ℤ) (m : ℕ) → SFits w32 z → m ≡ moved (toZ w32 (ofZ w32 z)) → m ≡ moved z
@@ -152,6 +156,17 @@ lowered-below m l = let e : coordinate (unmoved m) ≡ false = limit-below (unmo
 pub lowered-above : (m : ℕ) → 81919 < m → pos 0 ≡ lowered m
 unfolding lowered
 lowered-above m l = let e : coordinate (unmoved m) ≡ false = limit-above (unmoved m) (simp parts (omega arith)) in simp e
+
+-- what a spot within the limits is lowered to
+lowered-in : (m : ℕ) (z : ℤ) → unmoved m ≡ z → coordinate z ≡ true → lowered m ≡ z
+unfolding lowered
+lowered-in m z e f = simp (e, f)
+
+pub lowered-cell : (p : Spot) (c : Cell) → unmovedCell p ≡ c → inLimits c ≡ true → loweredCell p ≡ c
+lowered-cell p c e f =
+    let u = lowered-in (p .x) (c .x) (ap (λ (d : Cell). d .x) e) (limits-x c f) in
+    let v = lowered-in (p .y) (c .y) (ap (λ (d : Cell). d .y) e) (limits-y c f) in
+    λ i. record { x = u i; y = v i }
 
 -- what a lifted coordinate is lowered to
 pub lowered-moved : (z : ℤ) → coordinate z ≡ true → lowered (moved z) ≡ z

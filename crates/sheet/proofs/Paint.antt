@@ -13,15 +13,6 @@ use Rattle.sheet.specs.declared.Shape.{Shape}
 use Rattle.sheet.proofs.Cells.{OnSheet, on-sheet, sheet-cell, in-sheet, is-cell→, is-cell-refl, cell-at-place, place-cell-at}
 use Rattle.sheet.proofs.Places.{length-by, getD-by, by-as, by-none, by-then, by-one}
 
--- a byte's cell is on the sheet and passes a test, or is no cell of the figure
-either : (k : Shape) (n : ℕ) (f g : Cell → Bool) → (onSheet k (cellAt k n) ≡ true → f (cellAt k n) ≡ g (cellAt k n)) → held k f n ≡ held k g n
-unfolding held
-either k n f g h = by (onSheet k (cellAt k n)) refl
-  where
-    by : (t : Bool) → onSheet k (cellAt k n) ≡ t → (t && f (cellAt k n)) ≡ (t && g (cellAt k n))
-    by true e = h e
-    by false e = refl
-
 -- two inks of one place
 twice : (ink : ℕ) (a b : Bool) (v : ℕ) → cond b ink (cond a ink v) ≡ cond (a || b) ink v
 twice ink true true v = refl
@@ -29,6 +20,7 @@ twice ink true false v = refl
 twice ink false true v = refl
 twice ink false false v = refl
 
+-- a byte is held by its cell: figures that agree on the sheet, a figure with no cell on it, one figure or another
 spread : (t a b : Bool) → ((t && a) || (t && b)) ≡ (t && (a || b))
 spread true a b = refl
 spread false a b = refl
@@ -36,6 +28,29 @@ spread false a b = refl
 none : (t : Bool) → (t && false) ≡ false
 none true = refl
 none false = refl
+
+module _ (k : Shape) where
+  pub held-as : (f g : Cell → Bool) → ((x y : ℕ) → x < k .width → y < k .height → f (cellOf x y) ≡ g (cellOf x y)) → (n : ℕ) → held k f n ≡ held k g n
+  unfolding held cellAt
+  held-as f g h n = by (onSheet k (cellAt k n)) refl
+    where
+      by : (t : Bool) → onSheet k (cellAt k n) ≡ t → (t && f (cellAt k n)) ≡ (t && g (cellAt k n))
+      by true e = let b = in-sheet k _ _ e in h _ _ (b .0) (b .1)
+      by false e = refl
+
+  pub held-none : (f : Cell → Bool) → ((x y : ℕ) → x < k .width → y < k .height → f (cellOf x y) ≡ false) → (n : ℕ) → held k f n ≡ false
+  unfolding held
+  held-none f h n = held-as f (λ c. false) h n ∙ none (onSheet k (cellAt k n))
+
+  pub held-then : (f g : Cell → Bool) (n : ℕ) → (held k f n || held k g n) ≡ held k (λ (c : Cell). f c || g c) n
+  unfolding held
+  held-then f g n = spread (onSheet k (cellAt k n)) (f (cellAt k n)) (g (cellAt k n))
+
+  -- the byte of a cell on the sheet
+  pub held-cell : (f : Cell → Bool) (x y : ℕ) → x < k .width → y < k .height → held k f (place k (cellOf x y)) ≡ f (cellOf x y)
+  unfolding held
+  held-cell f x y a b =
+      ap (λ (c : Cell). onSheet k c && f c) (cell-at-place k x y a) ∙ ap (λ (t : Bool). t && f (cellOf x y)) (on-sheet k x y a b)
 
 -- the byte of one cell
 module _ (k : Shape) (x y : ℕ) (a : x < k .width) (b : y < k .height) (n : ℕ) where
@@ -60,22 +75,20 @@ module _ (k : Shape) (ink : ℕ) where
   -- figures that agree on the sheet paint alike
   pub paint-as : (f g : Cell → Bool) (s : List ℕ) → ((x y : ℕ) → x < k .width → y < k .height → f (cellOf x y) ≡ g (cellOf x y))
       → paint k ink f s ≡ paint k ink g s
-  unfolding paint cellAt
-  paint-as f g s h = by-as _ _ s (λ n v l. ap (λ (t : Bool). cond t ink v) (either k n f g (λ e. let b = in-sheet k _ _ e in h _ _ (b .0) (b .1))))
+  unfolding paint
+  paint-as f g s h = by-as _ _ s (λ n v l. ap (λ (t : Bool). cond t ink v) (held-as k f g h n))
 
   -- a figure with no cell on the sheet changes nothing
   pub paint-none : (f : Cell → Bool) (s : List ℕ) → ((x y : ℕ) → x < k .width → y < k .height → f (cellOf x y) ≡ false) → paint k ink f s ≡ s
-  unfolding paint held
-  paint-none f s h = paint-as f (λ c. false) s h ∙ by-as _ (λ (n v : ℕ). v) s (λ n v l. rw none) ∙ by-none s
+  unfolding paint
+  paint-none f s h = by-as _ (λ (n v : ℕ). v) s (λ n v l. rw (held-none k f h n)) ∙ by-none s
 
   -- one figure after another, in one ink, is both
   pub paint-then : (f g : Cell → Bool) (s : List ℕ) → paint k ink g (paint k ink f s) ≡ paint k ink (λ (c : Cell). f c || g c) s
-  unfolding paint held
+  unfolding paint
   paint-then f g s =
       by-then _ _ s
-      ∙ by-as _ _ s (λ n v l.
-      twice ink (held k f n) (held k g n) v
-      ∙ ap (λ (t : Bool). cond t ink v) (spread (onSheet k (cellAt k n)) (f (cellAt k n)) (g (cellAt k n))))
+      ∙ by-as _ _ s (λ n v l. twice ink (held k f n) (held k g n) v ∙ ap (λ (t : Bool). cond t ink v) (held-then k f g n))
 
   -- one cell of the sheet is one byte
   pub paint-one : (x y : ℕ) (s : List ℕ) → x < k .width → y < k .height → paint k ink (isCell (cellOf x y)) s ≡ set s (place k (cellOf x y)) ink
@@ -97,13 +110,10 @@ module _ (k : Shape) (ink : ℕ) where
   -- each cell of the sheet, by its place
   pub paint-cell : (f : Cell → Bool) (s : List ℕ) (c : Cell) → onSheet k c ≡ true → place k c < length s
       → getD (paint k ink f s) (place k c) 0 ≡ cond (f c) ink (getD s (place k c) 0)
-  unfolding held
   paint-cell f s c e l =
       let o = sheet-cell k c e in
-      let at : cellAt k (place k c) ≡ c = rw (o .is-cell) (cell-at-place k (o .column) (o .row) (o .in-width)) in
-      paint-byte f s (place k c) l
-      ∙ ap (λ (d : Cell). cond (onSheet k d && f d) ink (getD s (place k c) 0)) at
-      ∙ ap (λ (t : Bool). cond (t && f c) ink (getD s (place k c) 0)) e
+      let h : held k f (place k c) ≡ f c = rw (o .is-cell) (held-cell k f (o .column) (o .row) (o .in-width) (o .in-height)) in
+      paint-byte f s (place k c) l ∙ ap (λ (t : Bool). cond t ink (getD s (place k c) 0)) h
 
   -- painting twice is painting once
   pub paint-twice : (f : Cell → Bool) (s : List ℕ) → paint k ink f (paint k ink f s) ≡ paint k ink f s

@@ -19,7 +19,7 @@ moved z = cond (coordinate z) (natAbs (z +ℤ pos 65536)) 0
 abbrev pub unmoved : ℕ → ℤ
 unmoved m = pos m -ℤ pos 65536
 
--- the same of cells
+-- a cell, moved, and the cell that a spot stands for
 abbrev pub movedCell : Cell → Spot
 movedCell c = record { x = moved (c .x); y = moved (c .y) }
 
@@ -29,6 +29,10 @@ unmovedCell p = record { x = unmoved (p .x); y = unmoved (p .y) }
 -- the coordinate that m stands for, where that is within the limits; 0 for any other m
 unfoldable pub lowered : ℕ → ℤ
 lowered m = cond (coordinate (unmoved m)) (unmoved m) (pos 0)
+
+-- the same of cells
+abbrev pub loweredCell : Spot → Cell
+loweredCell p = record { x = lowered (p .x); y = lowered (p .y) }
 
 -- what inner functions are promised: a coordinate within the limits, moved
 pub record Moved (m : ℕ) : Type 0 where

@@ -5,7 +5,7 @@ ghost use Rattle.sheet.specs.Sheet.{fits, inLimits, isCell, paint};
 ghost use Rattle.sheet.specs.Reply.{number, settled};
 ghost use Rattle.sheet.specs.Drawn.{toldDrawn};
 ghost use Rattle.sheet.specs.Mark.{markAnswer};
-ghost use Rattle.sheet.specs.Inner.{moved, lowered, movedCell, unmovedCell};
+ghost use Rattle.sheet.specs.Inner.{moved, lowered, movedCell, unmovedCell, loweredCell};
 
 // A cell of the unlimited grid.
 pub struct Cell {
@@ -135,6 +135,16 @@ pub fn lift_cell(cell: Cell) -> Spot
     Spot {
         x: lift(cell.x),
         y: lift(cell.y),
+    }
+}
+
+// And back.
+pub fn lower_cell(spot: Spot) -> Cell
+    ensures { λ r. ⌜ r ≡ loweredCell spot ⌝ }
+{
+    Cell {
+        x: lower(spot.x),
+        y: lower(spot.y),
     }
 }
 

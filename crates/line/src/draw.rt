@@ -1,0 +1,241 @@
+// Drawing a line: the range of its cells that are on the sheet is worked out once, and walked with no test for each cell.
+ghost use mathlib.Core.Path.{_≡_};
+ghost use mathlib.Core.Logic.{_⊎_};
+ghost use mathlib.Core.Bool.{cond};
+ghost use Prim.Native.Nat.{_+_, _-_, _*_, _/_, _%_, _≤_, _<_};
+ghost use lib.ListN.{length};
+ghost use Rattle.sheet.specs.Sheet.{paint, cellsOn};
+ghost use Rattle.sheet.specs.Reply.{settled};
+ghost use Rattle.sheet.specs.Counted.{toldCounted};
+ghost use Rattle.sheet.specs.Inner.{Sheet};
+ghost use Rattle.line.specs.Rule.{rise, onLine};
+ghost use Rattle.line.specs.Draw.{lineAnswer};
+ghost use Rattle.line.specs.Course.{stepped, spotAt, Runs, firstCells};
+ghost use Rattle.line.specs.Fixed.{slope};
+ghost use Rattle.line.specs.Span.{enters, leaves, Least, Enters, Leaves, On, Spans, byteOf, aloneBy, bothBy};
+use crate::Course;
+use crate::chosen;
+use crate::course_of;
+use sheet::Cell;
+use sheet::Counted;
+use sheet::Refusal;
+use sheet::Shape;
+
+// The larger, the smaller; a less b, or 0 where that is below 0.
+fn larger(a: u32, b: u32) -> u32
+    ensures { λ r. ⌜ (a ≤ r) × (b ≤ r) × ((r ≡ a) ⊎ (r ≡ b)) ⌝ }
+{
+    if a < b { b } else { a }
+}
+
+fn smaller(a: u32, b: u32) -> u32
+    ensures { λ r. ⌜ (r ≤ a) × (r ≤ b) × ((r ≡ a) ⊎ (r ≡ b)) ⌝ }
+{
+    if a < b { a } else { b }
+}
+
+fn less(a: u32, b: u32) -> u32
+    ensures { λ r. ⌜ r ≡ a - b ⌝ }
+{
+    if b < a { a - b } else { 0 }
+}
+
+// Steps from m along an axis of the sheet: the first that is not before the sheet, and the first past it.
+fn steps_to(up: bool, m: u32, size: u32) -> u32
+    requires { ⌜ size ≤ 4096 ⌝ }
+    ensures { λ r. ⌜ r ≡ enters up m size ⌝ }
+{
+    chosen(up, less(65536, m), less(m, 65535 + size))
+}
+
+fn steps_past(up: bool, m: u32, size: u32) -> u32
+    requires { ⌜ size ≤ 4096 ⌝ }
+    ensures { λ r. ⌜ r ≡ leaves up m size ⌝ }
+{
+    chosen(up, less(65536 + size, m), less(m, 65535))
+}
+
+// The first n at which the shorter extent has come k steps; l + 1 where none has.
+fn least_n(k: u32, l: u32, s: u32) -> u32
+    requires { ⌜ (s ≤ l) × (l ≤ 32767) ⌝ }
+    ensures { λ r. ⌜ Least k l s r ⌝ }
+{
+    if k < 1 {
+        return 0;
+    }
+    if s < k {
+        return l + 1;
+    }
+    let m = (2 * k - 1) * l;
+    let d = 2 * s;
+    (m + (d - 1)) / d
+}
+
+// The first n whose cell is not before the sheet along either axis, and the first past it along one.
+fn first_n(shape: Shape, course: Course) -> u32
+    requires { ⌜ (shape .width ≤ 4096) × (shape .height ≤ 4096) × Runs course ⌝ }
+    ensures { λ r. ⌜ Enters shape course r ⌝ }
+{
+    let steep = course.steep;
+    let x = steps_to(course.right, course.x, shape.width);
+    let y = steps_to(true, course.y, shape.height);
+    larger(
+        chosen(steep, y, x),
+        least_n(chosen(steep, x, y), course.long, course.short),
+    )
+}
+
+fn past_n(shape: Shape, course: Course) -> u32
+    requires { ⌜ (shape .width ≤ 4096) × (shape .height ≤ 4096) × Runs course ⌝ }
+    ensures { λ r. ⌜ Leaves shape course r ⌝ }
+{
+    let steep = course.steep;
+    let x = steps_past(course.right, course.x, shape.width);
+    let y = steps_past(true, course.y, shape.height);
+    smaller(
+        chosen(steep, y, x),
+        least_n(chosen(steep, x, y), course.long, course.short),
+    )
+}
+
+// The shorter extent over the longer, in parts of 2^32 (rounded down, and a little less, so that it fits).
+fn slope_of(l: u32, s: u32) -> u32
+    requires { ⌜ (s ≤ l) × (l ≤ 32767) ⌝ }
+    ensures { λ r. ⌜ r ≡ slope l s ⌝ }
+{
+    if l < 1 {
+        return 0;
+    }
+    (s as u64 * 4294967295 / l as u64) as u32
+}
+
+// What n such steps come to: its whole part is the steps along the shorter extent at the nth cell.
+fn tally_at(l: u32, f: u32, n: u32) -> u64
+    requires { ⌜ (n ≤ l) × (l ≤ 32767) ⌝ }
+    ensures { λ r. ⌜ (r ≡ n * f + (2147483648 + 2 * l)) × (r < 281474976710656) ⌝ }
+{
+    n as u64 * f as u64 + (2147483648 + 2 * l as u64)
+}
+
+fn whole(t: u64) -> u32
+    requires { ⌜ t < 281474976710656 ⌝ }
+    ensures { λ r. ⌜ r ≡ t / 4294967296 ⌝ }
+{
+    (t / 4294967296) as u32
+}
+
+fn part(t: u64) -> u32
+    ensures { λ r. ⌜ r ≡ t % 4294967296 ⌝ }
+{
+    (t % 4294967296) as u32
+}
+
+// k steps from m.
+fn stepped_by(up: bool, m: u32, k: u32) -> u32
+    requires { ⌜ (32768 ≤ m) × (m ≤ 131072) × (k ≤ 32768) ⌝ }
+    ensures { λ r. ⌜ r ≡ stepped up m k ⌝ }
+{
+    if up { m + k } else { m - k }
+}
+
+// The byte of the nth cell, which is on the sheet.
+fn byte_at(shape: Shape, course: Course, n: u32, q: u32) -> usize
+    requires { ⌜ (shape .width ≤ 4096) × (shape .height ≤ 4096) × Runs course ⌝ }
+    requires { ⌜ (n ≤ course .long) × (q ≡ rise (course .long) (course .short) n) × On shape (spotAt course n) ⌝ }
+    ensures { λ r. ⌜ r ≡ byteOf shape (spotAt course n) ⌝ }
+{
+    let steep = course.steep;
+    let width = shape.width;
+    let x = stepped_by(course.right, course.x, chosen(steep, q, n));
+    let y = course.y + chosen(steep, n, q);
+    (y - 65536) as usize * width as usize + (x - 65536) as usize
+}
+
+// What a step along the longer extent alone adds to a byte's place, and what a step along both adds, modulo 2^64.
+fn alone(right: bool, steep: bool, width: u32) -> usize
+    ensures { λ r. ⌜ r ≡ aloneBy right steep width ⌝ }
+{
+    if steep {
+        return width as usize;
+    }
+    if right { 1 } else { 18446744073709551615 }
+}
+
+fn both(right: bool, width: u32) -> usize
+    requires { ⌜ 1 ≤ width ⌝ }
+    ensures { λ r. ⌜ r ≡ bothBy right width ⌝ }
+{
+    if right {
+        width as usize + 1
+    } else {
+        width as usize - 1
+    }
+}
+
+fn chosen_step(first: bool, a: usize, b: usize) -> usize
+    ensures { λ r. ⌜ r ≡ cond first a b ⌝ }
+{
+    if first { a } else { b }
+}
+
+// The byte's place after a turn: a step along both extents, or along the longer alone.
+fn hop(shape: Shape, course: Course, at: usize, across: bool) -> usize
+    requires { ⌜ 1 ≤ shape .width ⌝ }
+    ensures { λ r. ⌜ r ≡ (at + cond across (bothBy (course .right) (shape .width)) (aloneBy (course .right) (course .steep) (shape .width))) % 18446744073709551616 ⌝ }
+{
+    let two = both(course.right, shape.width);
+    let one = alone(course.right, course.steep, shape.width);
+    std::num::wrapping_add_usize(at, chosen_step(across, two, one))
+}
+
+// Inks the cells first, .., past - 1 of a line, which are those on the sheet.
+fn walk(sheet: &mut [u8], shape: Shape, ink: u8, course: Course, first: u32, past: u32)
+    requires { ⌜ Sheet shape (now sheet) × Runs course ⌝ }
+    requires { ⌜ (first < past) × Spans shape course first past ⌝ }
+    ensures { λ r. ⌜ now (sheet .exit) ≡ paint shape ink (firstCells course (course .long + 1)) (now (sheet .entry)) ⌝ }
+{
+    let f = slope_of(course.long, course.short);
+    let t = tally_at(course.long, f, first);
+    let mut p = part(t);
+    let mut at = byte_at(shape, course, first, whole(t));
+    let mut n = first;
+    while n < past {
+        sheet[at] = ink;
+        n += 1;
+        let next = std::num::wrapping_add_u32(p, f);
+        at = hop(shape, course, at, next < p);
+        p = next;
+    }
+}
+
+// Inks the cells of a line that are on the sheet; how many they are.
+fn run(sheet: &mut [u8], shape: Shape, ink: u8, course: Course) -> u32
+    requires { ⌜ Sheet shape (now sheet) × Runs course ⌝ }
+    ensures { λ r. ⌜ (r ≡ cellsOn shape (firstCells course (course .long + 1))) × (now (sheet .exit) ≡ paint shape ink (firstCells course (course .long + 1)) (now (sheet .entry))) ⌝ }
+{
+    let first = first_n(shape, course);
+    let past = past_n(shape, course);
+    if past <= first {
+        return 0;
+    }
+    walk(sheet, shape, ink, course, first, past);
+    past - first
+}
+
+// Draws the line from one end to the other.
+pub fn draw_line(sheet: &mut [u8], shape: Shape, ink: u8, from: Cell, to: Cell) -> Counted
+    ensures { λ r. ⌜ toldCounted r ≡ lineAnswer shape (length (now (sheet .entry))) from to ⌝ }
+    ensures { λ r. ⌜ now (sheet .exit) ≡ settled (lineAnswer shape (length (now (sheet .entry))) from to) (paint shape ink (onLine from to) (now (sheet .entry))) (now (sheet .entry)) ⌝ }
+{
+    if !sheet::fits(shape, sheet.len()) {
+        return Counted::Refused(Refusal::Size);
+    }
+    if !sheet::in_limits(from) {
+        return Counted::Refused(Refusal::Coordinate);
+    }
+    if !sheet::in_limits(to) {
+        return Counted::Refused(Refusal::Coordinate);
+    }
+    let course = course_of(sheet::lift_cell(from), sheet::lift_cell(to));
+    Counted::Done(run(sheet, shape, ink, course))
+}

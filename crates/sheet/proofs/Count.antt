@@ -1,0 +1,31 @@
+-- The laws of `cellsOn`, the number of a figure's cells on the sheet.
+use Prim.Native.Nat.{ℕ, _+_, _<_}
+use mathlib.Core.Path.{_≡_, sym, ap, _∙_}
+use mathlib.Core.Bool.{Bool, false, _||_}
+use lib.Dec.{eqb}
+use Rattle.laws.proofs.Below.{count-as, count-none, count-more}
+use Rattle.sheet.specs.Sheet.{bytes, place, cellOf, held, isCell, cellsOn}
+use Rattle.sheet.specs.declared.Cell.{Cell}
+use Rattle.sheet.specs.declared.Shape.{Shape}
+use Rattle.sheet.proofs.Cells.{place-below}
+use Rattle.sheet.proofs.Paint.{held-as, held-none, held-then, held-cell, held-one}
+
+module _ (k : Shape) where
+  -- figures that agree on the sheet have as many cells
+  pub cells-as : (f g : Cell → Bool) → ((x y : ℕ) → x < k .width → y < k .height → f (cellOf x y) ≡ g (cellOf x y)) → cellsOn k f ≡ cellsOn k g
+  unfolding cellsOn
+  cells-as f g h = count-as (bytes k) (held k f) (held k g) (λ n l. held-as k f g h n)
+
+  -- a figure with no cell on the sheet
+  pub cells-none : (f : Cell → Bool) → ((x y : ℕ) → x < k .width → y < k .height → f (cellOf x y) ≡ false) → cellsOn k f ≡ 0
+  unfolding cellsOn
+  cells-none f h = count-none (bytes k) (held k f) (λ n l. held-none k f h n)
+
+  -- one cell more
+  pub cells-more : (f : Cell → Bool) (x y : ℕ) → x < k .width → y < k .height → f (cellOf x y) ≡ false
+      → cellsOn k (λ (c : Cell). f c || isCell (cellOf x y) c) ≡ cellsOn k f + 1
+  unfolding cellsOn
+  cells-more f x y a b e =
+      count-as (bytes k) _ (λ (n : ℕ). held k f n || eqb n (place k (cellOf x y)))
+      (λ n l. sym (held-then k f (isCell (cellOf x y)) n) ∙ ap (λ (t : Bool). held k f n || t) (held-one k x y a b n))
+      ∙ count-more (bytes k) (held k f) (place k (cellOf x y)) (place-below k x y a b) (held-cell k f x y a b ∙ e)
