@@ -1,4 +1,5 @@
 pub mod Across
+pub mod Along
 pub mod Answers
 pub mod Asking
 pub mod Axis
@@ -9,9 +10,11 @@ pub mod Distances
 pub mod Distinct
 pub mod EitherEnd
 pub mod Examples
+pub mod Filled
 pub mod Fixed
 pub mod Hops
 pub mod Least
+pub mod ListReplies
 pub mod Listed
 pub mod Marked
 pub mod OnLine

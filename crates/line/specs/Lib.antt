@@ -9,3 +9,4 @@ pub mod Listing
 pub mod Pen
 pub mod Rule
 pub mod Span
+pub mod Along

@@ -11,11 +11,11 @@ ghost use Rattle.sheet.specs.Inner.{Sheet};
 ghost use Rattle.line.specs.Rule.{rise, onLine};
 ghost use Rattle.line.specs.Draw.{lineAnswer};
 ghost use Rattle.line.specs.Course.{spotAt, Runs, firstCells};
-ghost use Rattle.line.specs.Fixed.{slope};
 ghost use Rattle.line.specs.Span.{enters, leaves, Least, Enters, Leaves, On, Spans, byteOf, aloneBy, bothBy};
 use crate::Course;
 use crate::chosen;
 use crate::course_of;
+use crate::slope_of;
 use crate::stepped_by;
 use sheet::Cell;
 use sheet::Counted;
@@ -97,17 +97,6 @@ fn past_n(shape: Shape, course: Course) -> u32
         chosen(steep, y, x),
         least_n(chosen(steep, x, y), course.long, course.short),
     )
-}
-
-// The shorter extent over the longer, in parts of 2^32 (rounded down, and a little less, so that it fits).
-fn slope_of(l: u32, s: u32) -> u32
-    requires { ⌜ (s ≤ l) × (l ≤ 32767) ⌝ }
-    ensures { λ r. ⌜ r ≡ slope l s ⌝ }
-{
-    if l < 1 {
-        return 0;
-    }
-    (s as u64 * 4294967295 / l as u64) as u32
 }
 
 // What n such steps come to: its whole part is the steps along the shorter extent at the nth cell.

@@ -3,12 +3,15 @@ ghost use mathlib.Core.Path.{_≡_};
 ghost use mathlib.Core.Bool.{cond};
 ghost use Prim.Native.Nat.{_≤_};
 ghost use Rattle.line.specs.Course.{gap, stepped, lesserSpot, courseFrom, courseOf};
+ghost use Rattle.line.specs.Fixed.{slope};
 use sheet::Spot;
 
 mod draw;
+mod listing;
 mod pen;
 
 pub use draw::draw_line;
+pub use listing::list_line;
 pub use pen::Asked;
 pub use pen::Begun;
 pub use pen::Pen;
@@ -82,4 +85,15 @@ fn course_of(a: Spot, b: Spot) -> Course
         y: chosen(first, b.y, a.y),
     };
     course_from(low, high)
+}
+
+// The shorter extent over the longer, in parts of 2^32 (rounded down, and a little less, so that it fits).
+fn slope_of(l: u32, s: u32) -> u32
+    requires { ⌜ (s ≤ l) × (l ≤ 32767) ⌝ }
+    ensures { λ r. ⌜ r ≡ slope l s ⌝ }
+{
+    if l < 1 {
+        return 0;
+    }
+    (s as u64 * 4294967295 / l as u64) as u32
 }

@@ -1,11 +1,11 @@
--- `line::draw::slope_of` meets its contract.
+-- `line::slope_of` meets its contract.
 use mathlib.Core.Path.{refl}
 use native.Mathlib.Omega.{arith}
 use Rattle.line.specs.Fixed.{slope}
 use Rattle.line.proofs.Fixed.{slope-none, slope-fits}
 use borrow.Author.Needs.{needs}
-use Rattle.line.proofs.draw.slope_of.Statement.{statement}
-use Rattle.line.proofs.draw.slope_of.Tie as tie
+use Rattle.line.proofs.slope_of.Statement.{statement}
+use Rattle.line.proofs.slope_of.Tie as tie
 
 returns : tie.Need-returns
 returns c = slope-none (c .before .args .l) (c .before .args .s) (c .if1 .taken)
