@@ -1,0 +1,9 @@
+// Any figure, in cells or in metres, and a whole file, onto a sheet.
+use sheet::Refusal;
+
+// The reply of drawing a figure of any kind: a line tells its number of cells on the sheet.
+pub enum Shown {
+    Done,
+    Cells(u32),
+    Refused(Refusal),
+}
