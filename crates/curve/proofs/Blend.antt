@@ -9,7 +9,7 @@ use Rattle.laws.proofs.Ints.{up-+, dn-+, up-*, dn-*, to-≡ℤ}
 use Rattle.curve.specs.Rule.{blend}
 
 -- a × z + b × w, of z that is p less q and w that is r less t
-mixed : (a b : ℕ) (z w : ℤ) (p q r t : ℕ) → up z + q ≡ dn z + p → up w + t ≡ dn w + r
+pub mixed : (a b : ℕ) (z w : ℤ) (p q r t : ℕ) → up z + q ≡ dn z + p → up w + t ≡ dn w + r
     → up (pos a *ℤ z +ℤ pos b *ℤ w) + (a * q + b * t) ≡ dn (pos a *ℤ z +ℤ pos b *ℤ w) + (a * p + b * r)
 mixed a b z w p q r t e f =
     omega

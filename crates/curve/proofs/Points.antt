@@ -91,3 +91,22 @@ coordinate-moved n i z₀ z₁ z₂ p₀ p₁ p₂ l m e₀ e₁ e₂ =
     each (suc zero) h = stands-parts p₁ z₁ e₁
     each (suc (suc zero)) h = stands-parts p₂ z₂ e₂
     each (suc (suc (suc j))) h = absurd (omega arith)
+
+-- the same of points: the first and the last, and those of the control points reversed
+module _ (a b c : Cell) (n : ℕ) (l : 0 < n) where
+  pub point-first : pointAt (a ∷ b ∷ c ∷ []) n 0 ≡ a
+  unfolding pointAt
+  point-first = λ t. record { x = coordinate-first (a .x ∷ b .x ∷ c .x ∷ []) n l t; y = coordinate-first (a .y ∷ b .y ∷ c .y ∷ []) n l t }
+
+  pub point-last : pointAt (a ∷ b ∷ c ∷ []) n n ≡ c
+  unfolding pointAt
+  point-last = λ t. record { x = coordinate-last (a .x ∷ b .x ∷ c .x ∷ []) n l t; y = coordinate-last (a .y ∷ b .y ∷ c .y ∷ []) n l t }
+
+  pub point-reversed : (i : ℕ) → i ≤ n → pointAt (c ∷ b ∷ a ∷ []) n (n - i) ≡ pointAt (a ∷ b ∷ c ∷ []) n i
+  unfolding pointAt
+  point-reversed i m =
+      λ t.
+      record {
+        x = coordinate-reversed (a .x ∷ b .x ∷ c .x ∷ []) n i (omega arith) m t;
+        y = coordinate-reversed (a .y ∷ b .y ∷ c .y ∷ []) n i (omega arith) m t;
+      }
