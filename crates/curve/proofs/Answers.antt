@@ -1,20 +1,18 @@
 -- The answer and the sheet at each return of `draw_curve`.
 use Prim.Native.Nat.{ℕ, _+_, _^_, _≤_, _<_}
-use mathlib.Core.Path.{_≡_, refl, sym, ap, ap₂, _∙_}
+use mathlib.Core.Path.{_≡_, refl, sym, ap, _∙_}
 use mathlib.Core.List.{List, [], _∷_}
 use mathlib.Core.Bool.{Bool, true, false, cond, _&&_, and-true}
 use native.Mathlib.Omega.{arith}
 use borrow.Author.Tests.{le-leb, lt-leb}
 use lib.ListN.{length}
-use lib.Dec.{leb}
-use lib.IntN.{ℤ}
 use lib.Pow.{pow-pos}
-use Rattle.laws.specs.Below.{any, all}
+use Rattle.laws.specs.Below.{all}
 use Rattle.laws.proofs.Below.{any-as, all-as}
-use Rattle.laws.proofs.Tests.{is-true, from-true, and-l, and-r}
-use Rattle.sheet.specs.Sheet.{fits, coordinate, inLimits, cellOf, paint}
+use Rattle.laws.proofs.Tests.{from-true}
+use Rattle.sheet.specs.Sheet.{fits, inLimits, cellOf, paint}
 use Rattle.sheet.specs.Reply.{done, refuse, settled}
-use Rattle.sheet.specs.Inner.{moved, unmoved, unmovedCell}
+use Rattle.sheet.specs.Inner.{moved, unmovedCell}
 use Rattle.sheet.specs.declared.Cell.{Cell}
 use Rattle.sheet.specs.declared.Shape.{Shape}
 use Rattle.sheet.specs.declared.Refusal.the-variants.{Size, Coordinate, Pieces}
@@ -23,8 +21,7 @@ use Rattle.sheet.proofs.Paint.{paint-as}
 use Rattle.line.specs.Rule.{onLine}
 use Rattle.curve.specs.Rule.{pointAt, onCurve}
 use Rattle.curve.specs.Draw.{allInLimits, joinedInLimits, curveAnswer}
-use Rattle.curve.specs.Inner.{jointOf, jointAt, controlsOf, Bends, firstPieces}
-use Rattle.curve.specs.declared.Controls.{Controls}
+use Rattle.curve.specs.Inner.{jointAt, controlsOf, Bends, firstPieces}
 use Rattle.curve.proofs.Joining.{isIn}
 use Rattle.curve.proofs.Points.{coordinate-moved}
 

@@ -1,6 +1,6 @@
 -- For three control values the blend is the document's formula: (n − i)²P0 + 2i(n − i)P1 + i²P2.
 use Prim.Native.Nat.{ℕ, _+_, _-_, _*_}
-use mathlib.Core.Path.{_≡_, refl}
+use mathlib.Core.Path.{_≡_}
 use mathlib.Core.List.{[], _∷_}
 use native.Mathlib.Omega.{arith}
 use lib.ListN.{getD}

@@ -2,11 +2,11 @@
 use Prim.Native.Nat.{ℕ, zero, suc, _+_, _-_, _*_, _/_, _^_, _≤_, _<_}
 use mathlib.Core.Path.{_≡_, sym, ap, _∙_}
 use mathlib.Core.Logic.{_⊎_, inl, inr}
-use mathlib.Core.List.{List, [], _∷_, map, reverse, reverseAux}
-use native.Mathlib.Nat.{pow-zero, pow-succ', mul-le-mul, add-zero}
+use mathlib.Core.List.{List, [], _∷_, reverse, reverseAux}
+use native.Mathlib.Nat.{pow-zero, pow-succ', mul-le-mul}
 use native.Mathlib.Omega.{arith}
 use lib.ListN.{length, getD, length-reverse}
-use lib.IntN.{ℤ, pos, _*ℤ_, _-ℤ_}
+use lib.IntN.{ℤ, pos}
 use Rattle.laws.specs.Parts.{up, dn}
 use Rattle.laws.proofs.Products.{lt-or-ge}
 use Rattle.sheet.specs.Inner.{unmoved}

@@ -1,5 +1,5 @@
 -- Whole numbers as `omega` reads them: an order or an equation of them is one of the natural numbers `up` and `dn` of each.
-use mathlib.Core.Path.{_≡_, refl, sym, _∙_, ap, subst}
+use mathlib.Core.Path.{_≡_, refl, sym, ap, subst}
 use mathlib.Core.Bool.{Bool, true, false, cond, not}
 use Prim.Native.Nat.{ℕ, zero, suc, _+_, _*_, _-_, _^_, _≤_, _<_, min, zero-le}
 use native.Mathlib.Omega.{arith}

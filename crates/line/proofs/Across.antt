@@ -3,53 +3,34 @@ use Prim.Native.Nat.{ℕ, zero, suc, _+_, _-_, _*_, _≤_, _<_}
 use mathlib.Core.Path.{_≡_, ap}
 use mathlib.Core.Bool.{Bool, true, false, cond}
 use mathlib.Core.Logic.{inl, inr}
-use native.Mathlib.Nat.{mul-le-mul-right, div-zero}
+use native.Mathlib.Nat.{mul-le-mul-right}
 use native.Mathlib.Omega.{arith}
-use Rattle.laws.proofs.Floor.{div-low, div-high}
 use Rattle.laws.proofs.Products.{lt-or-ge, mul-lt-back}
 use Rattle.line.specs.Course.{gap}
 use Rattle.line.specs.Rule.{rise}
-use Rattle.line.proofs.Fixed.{rise-start}
-use Rattle.line.proofs.Least.{rise-top}
-
--- the floor's two bounds
-rise-below : (L S n : ℕ) → rise L S n * (2 * L) ≤ 2 * (n * S) + L
-unfolding rise
-rise-below L S n = div-low (2 * (n * S) + L) (2 * L)
-
-rise-above : (L S n : ℕ) → 0 < L → 2 * (n * S) + L < (rise L S n + 1) * (2 * L)
-unfolding rise
-rise-above L S n p = div-high (2 * (n * S) + L) (2 * L) (omega arith)
-
--- a line of one cell has no steps
-rise-none : (S n : ℕ) → rise 0 S n ≡ 0
-unfolding rise
-rise-none S n = div-zero (2 * (n * S) + 0)
+use Rattle.line.proofs.Rise.{rise-low, rise-high, rise-none, rise-start, rise-short}
 
 -- within half a cell
 rise-half : (L S n : ℕ) → n ≤ L → 2 * gap (rise L S n * L) (n * S) ≤ L
 rise-half zero S n l = let e : n ≡ 0 = omega arith in rw e (omega arith)
-rise-half (suc L) S n l = omega (arith, rise-below (suc L) S n, rise-above (suc L) S n (omega arith))
+rise-half (suc L) S n l = omega (arith, rise-low (suc L) S n, rise-high (suc L) S n (omega arith))
 
 -- S at the last cell, no more than S before it, and at most one more at the next
 rise-end : (L S : ℕ) → S ≤ L → rise L S L ≡ S
 rise-end zero S l = omega (arith, rise-none S 0)
 rise-end (suc L) S l =
     let r = rise (suc L) S (suc L) in
-    let h = mul-lt-back (2 * suc L) r (S + 1) (omega (arith, rise-below (suc L) S (suc L))) in
-    let k = mul-lt-back (2 * suc L) S (r + 1) (omega (arith, rise-above (suc L) S (suc L) (omega arith))) in
+    let h = mul-lt-back (2 * suc L) r (S + 1) (omega (arith, rise-low (suc L) S (suc L))) in
+    let k = mul-lt-back (2 * suc L) S (r + 1) (omega (arith, rise-high (suc L) S (suc L) (omega arith))) in
     omega arith
-
-pub rise-within : (L S n : ℕ) → S ≤ L → n ≤ L → rise L S n ≤ S
-rise-within L S n l h = omega (arith, rise-top L S n (S + 1) l h (omega arith))
 
 rise-grows : (L S n : ℕ) → S ≤ L → (rise L S n ≤ rise L S (n + 1)) × (rise L S (n + 1) ≤ rise L S n + 1)
 rise-grows zero S n l = omega (arith, rise-none S n, rise-none S (n + 1))
 rise-grows (suc L) S n l =
     let r = rise (suc L) S n in
     let q = rise (suc L) S (n + 1) in
-    let h = mul-lt-back (2 * suc L) r (q + 1) (omega (arith, rise-below (suc L) S n, rise-above (suc L) S (n + 1) (omega arith))) in
-    let k = mul-lt-back (2 * suc L) q (r + 2) (omega (arith, rise-below (suc L) S (n + 1), rise-above (suc L) S n (omega arith))) in
+    let h = mul-lt-back (2 * suc L) r (q + 1) (omega (arith, rise-low (suc L) S n, rise-high (suc L) S (n + 1) (omega arith))) in
+    let k = mul-lt-back (2 * suc L) q (r + 2) (omega (arith, rise-low (suc L) S (n + 1), rise-high (suc L) S n (omega arith))) in
     omega arith
 
 -- the same, counted from the first named end, which is the lesser or not
@@ -59,7 +40,7 @@ crossed first L S n = cond first (rise L S n) (S - rise L S (L - n))
 pub crossed-half : (t : Bool) (L S n : ℕ) → S ≤ L → n ≤ L → 2 * gap (crossed t L S n * L) (n * S) ≤ L
 crossed-half true L S n l h = rise-half L S n h
 crossed-half false L S n l h =
-    by (S - rise L S (L - n)) (rise L S (L - n)) (L - n) (omega (arith, rise-within L S (L - n) l (omega arith))) (omega arith) (rise-half L S (L - n) (omega arith))
+    by (S - rise L S (L - n)) (rise L S (L - n)) (L - n) (omega (arith, rise-short L S (L - n) (omega arith))) (omega arith) (rise-half L S (L - n) (omega arith))
   where
     by : (m r k : ℕ) → m + r ≡ S → n + k ≡ L → 2 * gap (r * L) (k * S) ≤ L → 2 * gap (m * L) (n * S) ≤ L
     by m r k e f g = omega (arith, ap (λ (t : ℕ). t * L) e, ap (λ (t : ℕ). t * S) f)
@@ -76,7 +57,7 @@ pub crossed-grows : (t : Bool) (L S n : ℕ) → S ≤ L → n < L → (crossed 
 crossed-grows true L S n l h = rise-grows L S n l
 crossed-grows false L S n l h =
     let e : L - n ≡ L - (n + 1) + 1 = omega arith in
-    omega (arith, rise-grows L S (L - (n + 1)) l, ap (rise L S) e, rise-within L S (L - n) l (omega arith))
+    omega (arith, rise-grows L S (L - (n + 1)) l, ap (rise L S) e, rise-short L S (L - n) (omega arith))
 
 -- within half a cell: none other is nearer. u − d is any whole number
 pub half-nearest : (L N M u d : ℕ) → 2 * gap (M * L) N ≤ L → gap (M * L) N ≤ gap (u * L) (d * L + N)

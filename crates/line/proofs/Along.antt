@@ -13,6 +13,7 @@ use Rattle.sheet.specs.declared.Cell.{Cell}
 use Rattle.line.specs.Listing.{cellsOf}
 use Rattle.line.specs.Course.{stepped}
 use Rattle.line.specs.Along.{over, numberAt, gone, reached, along, Bounded}
+use Rattle.line.proofs.Rise.{from-either}
 
 -- one place more
 over-more : (g : ℕ → ℤ) (n : ℕ) (s : List ℤ) → n < length s → set (over g n s) n (g n) ≡ over g (suc n) s
@@ -43,10 +44,6 @@ over-cells coordinate f (suc n) [] l = absurd (omega arith)
 over-cells coordinate f (suc n) (v ∷ s) l = ap (λ (t : List ℤ). coordinate (f 0) ∷ t) (over-cells coordinate (λ (k : ℕ). f (suc k)) n s (omega arith))
 
 -- the cell at a place is one of the line
-pub number-le : (t : Bool) (l i : ℕ) → i ≤ l → numberAt t l i ≤ l
-number-le true l i h = h
-number-le false l i h = omega arith
-
 pub number-first : (t : Bool) (l n : ℕ) → n ≡ cond t 0 l → n ≡ numberAt t l 0
 number-first t l n e = e ∙ ap (cond t 0) (omega arith)
 
@@ -115,7 +112,7 @@ module _ (first up : Bool) (m l f : ℕ) where
     -- the place is one of the list, and the sum far from its limits
     pub within : (i < length list) × (4294967296 ≤ t) × (t < 562949953421312)
     within =
-        let h : numberAt first l i ≤ l = number-le first l i (omega arith) in
+        let h : numberAt first l i ≤ l = from-either first i l (omega arith) in
         let e : length list ≡ length list₀ = ap length (r .listed) ∙ over-length (along first up m l f) i list₀ in
         omega (arith, sum-is, reached-low m l f a up (numberAt first l i) h, reached-high m l f a up (numberAt first l i) h)
 
@@ -123,7 +120,7 @@ module _ (first up : Bool) (m l f : ℕ) where
         → Running first up m l f list₀ list′ (t + gains - (f - gains)) (i + 1)
     unfolding along
     turn gains list′ hg h =
-        let e : t / 4294967296 ≡ stepped up m (gone l f (numberAt first l i) / 4294967296) = ap (λ (z : ℕ). z / 4294967296) sum-is ∙ whole-at m l f a up (numberAt first l i) (number-le first l i (omega arith)) in
+        let e : t / 4294967296 ≡ stepped up m (gone l f (numberAt first l i) / 4294967296) = ap (λ (z : ℕ). z / 4294967296) sum-is ∙ whole-at m l f a up (numberAt first l i) (from-either first i l (omega arith)) in
         record {
           most = omega arith;
           sum = λ p. (λ j. sum-is j + hg j - (f - hg j)) ∙ sum-next m l f a first up i p;

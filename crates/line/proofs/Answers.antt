@@ -1,8 +1,8 @@
 -- The answer and the sheet at each return of `draw_line`.
-use Prim.Native.Nat.{ℕ, _+_, _≤_, _<_}
+use Prim.Native.Nat.{ℕ, _+_}
 use mathlib.Core.Path.{_≡_, refl, ap, _∙_}
 use mathlib.Core.List.{List, [], _∷_}
-use mathlib.Core.Bool.{Bool, true, false, _&&_}
+use mathlib.Core.Bool.{true, false}
 use native.Mathlib.Omega.{arith}
 use lib.ListN.{length}
 use lib.IntN.{pos}
@@ -10,7 +10,7 @@ use Rattle.laws.specs.Below.{any}
 use Rattle.laws.proofs.Below.{any-as}
 use Rattle.sheet.specs.Sheet.{fits, inLimits, cellOf, isCell, paint, cellsOn}
 use Rattle.sheet.specs.Reply.{done, refuse, settled}
-use Rattle.sheet.specs.Inner.{movedCell, unmovedCell}
+use Rattle.sheet.specs.Inner.{movedCell}
 use Rattle.sheet.specs.declared.Cell.{Cell}
 use Rattle.sheet.specs.declared.Shape.{Shape}
 use Rattle.sheet.specs.declared.Spot.{Spot}
@@ -20,9 +20,9 @@ use Rattle.sheet.proofs.Limits.{LiftedCell, lifted-cell}
 use Rattle.sheet.proofs.Paint.{paint-as}
 use Rattle.line.specs.Rule.{long, nth, onLine}
 use Rattle.line.specs.Draw.{lineAnswer}
-use Rattle.line.specs.Course.{spotAt, courseOf, Runs, firstCells}
+use Rattle.line.specs.Course.{courseOf, Runs, firstCells}
 use Rattle.line.specs.declared.Course.{Course}
-use Rattle.line.proofs.Bridge.{course-runs, course-cell, course-long, long-limit}
+use Rattle.line.proofs.Bridge.{course-runs, course-cell, course-long}
 
 -- the cells of the course of two lifted ends are the line's
 line-cells : (a b : Cell) (p q : Spot) → LiftedCell a p → LiftedCell b q → (d : Cell)

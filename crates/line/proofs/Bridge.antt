@@ -1,24 +1,22 @@
 -- From the moved plane to the rule: the course of two lifted ends runs over the line's cells.
-use Prim.Native.Nat.{ℕ, zero, suc, _+_, _-_, _*_, _/_, _≤_, _<_}
-use mathlib.Core.Path.{_≡_, refl, sym, subst, ap, ap₂, _∙_}
+use Prim.Native.Nat.{ℕ, _+_, _-_, _≤_}
+use mathlib.Core.Path.{_≡_, refl, sym, subst, ap, _∙_}
 use mathlib.Core.Bool.{Bool, true, false, cond, _&&_, _||_}
-use native.Mathlib.Nat.{mul-le-mul-left, div-lt-iff-lt-mul, div-zero}
 use native.Mathlib.Omega.{arith}
 use borrow.Author.Tests.{ltb-true, ltb-false, eqb-true, le-leb}
 use lib.Dec.{T, ltb, leb, eqb, ltb→lt, lt→ltb, leb→le, le→leb, eqb→eq}
 use lib.IntN.{ℤ, pos, natAbs, _+ℤ_, _-ℤ_}
 use lib.Signed.{ltZ, leZ}
-use Rattle.laws.specs.Parts.{up, dn, eqZ}
-use Rattle.laws.proofs.Ints.{parts, one-zero, le-parts, lt-parts, to-leZ, to-ltZ, to-≡ℤ, from-≡ℤ, leZ-true, leZ-false, eqZ→≡, eqZ-refl}
+use Rattle.laws.specs.Parts.{eqZ}
+use Rattle.laws.proofs.Ints.{parts, one-zero, le-parts, lt-parts, to-leZ, to-ltZ, to-≡ℤ, from-≡ℤ, eqZ→≡, eqZ-refl}
 use Rattle.laws.proofs.Tests.{same, from-true, eqb-of}
-use Rattle.sheet.specs.Sheet.{coordinate, inLimits}
-use Rattle.sheet.specs.Inner.{moved, movedCell, unmoved, unmovedCell, Moved}
+use Rattle.sheet.specs.Inner.{unmoved, unmovedCell, Moved}
 use Rattle.sheet.specs.declared.Cell.{Cell}
 use Rattle.sheet.specs.declared.Spot.{Spot}
 use Rattle.sheet.proofs.Limits.{LiftedCell, stands-parts}
-use Rattle.line.specs.Rule.{lesser, wide, tall, longer, shorter, long, short, steep, rise, toward, fromLesser, nth}
+use Rattle.line.specs.Rule.{lesser, wide, tall, longer, shorter, long, rise, toward, fromLesser, nth}
 use Rattle.line.specs.Course.{gap, stepped, spotAt, lesserSpot, courseFrom, courseOf, Runs}
-use Rattle.line.specs.declared.Course.{Course}
+use Rattle.line.proofs.Rise.{rise-le}
 
 -- m stands for z
 abbrev Stands : ℕ → ℤ → Type 0
@@ -81,14 +79,6 @@ cond-le false m n k p q = q
 
 longer-le : (w t k : ℕ) → w ≤ k → t ≤ k → longer w t ≤ k
 longer-le w t k p q = cond-le (ltb w t) t w k q p
-
--- the steps along the shorter extent are no more than those along the longer
-pub rise-le : (L S n : ℕ) → S ≤ L → rise L S n ≤ n
-unfolding rise
-rise-le zero S n l = omega (arith, div-zero (2 * (n * S) + 0))
-rise-le (suc L) S n l =
-    let h : (2 * (n * S) + suc L) / (2 * suc L) < n + 1 = div-lt-iff-lt-mul {k = 2 * suc L} {x = 2 * (n * S) + suc L} {y = n + 1} (omega arith) .1 (omega (arith, mul-le-mul-left n l)) in
-    omega arith
 
 -- a lesser spot has no greater y
 lesser-y : (p q : Spot) → lesserSpot p q ≡ true → p .y ≤ q .y

@@ -1,6 +1,6 @@
 -- What the listing leaves in the two lists: the coordinates of a course's cells, and those are the listing's.
 use Prim.Native.Nat.{ℕ, _+_, _/_, _≤_, _<_}
-use mathlib.Core.Path.{_≡_, refl, sym, ap, _∙_}
+use mathlib.Core.Path.{_≡_, sym, ap, _∙_}
 use mathlib.Core.List.{List}
 use mathlib.Core.Bool.{Bool, true, false, cond, not}
 use native.Mathlib.Omega.{arith}
@@ -17,8 +17,10 @@ use Rattle.line.specs.Fixed.{slope, tally}
 use Rattle.line.specs.Along.{over, numberAt, gone, along, Bounded, courseCell}
 use Rattle.line.specs.declared.Course.{Course}
 use Rattle.line.proofs.Bridge.{lesser-is, course-cell, course-long, course-runs}
+use Rattle.line.proofs.Hops.{exchanged}
 use Rattle.line.proofs.Fixed.{tally-rise, slope-fits}
-use Rattle.line.proofs.Along.{over-as, over-cells, number-le}
+use Rattle.line.proofs.Along.{over-as, over-cells}
+use Rattle.line.proofs.Rise.{from-either}
 
 -- the steps along an extent: by the slope those of the rule, by a whole one for each cell
 gone-steps : (t : Bool) (l s n : ℕ) → s ≤ l → l ≤ 32767 → n ≤ l → gone l (cond t (slope l s) 4294967296) n / 4294967296 ≡ cond t (rise l s n) n
@@ -44,11 +46,7 @@ module _ (shorter : Bool) (m l s g : ℕ) (start : Moved m) (small : s ≤ l) (l
       (λ i p.
       ap (λ (k : ℕ). unmoved (stepped up m k))
       (ap (λ (f : ℕ). gone l f (numberAt first l i) / 4294967296) e
-      ∙ gone-steps shorter l s (numberAt first l i) small limit (number-le first l i (omega arith))))
-
-exchanged : (t : Bool) (m n : ℕ) → cond (not t) m n ≡ cond t n m
-exchanged true m n = refl
-exchanged false m n = refl
+      ∙ gone-steps shorter l s (numberAt first l i) small limit (from-either first i l (omega arith))))
 
 -- along a course with the slope f: x, and y
 module _ (c : Course) (r : Runs c) (f : ℕ) (e : f ≡ slope (c .long) (c .short)) where
@@ -65,7 +63,7 @@ module _ (c : Course) (r : Runs c) (f : ℕ) (e : f ≡ slope (c .long) (c .shor
 
   module _ (g : ℕ) (h : g ≡ cond (c .steep) 4294967296 f) where
     y-slope : g ≡ cond (not (c .steep)) (slope (c .long) (c .short)) 4294967296
-    y-slope = h ∙ ap (cond (c .steep) 4294967296) e ∙ sym (exchanged (c .steep) (slope (c .long) (c .short)) 4294967296)
+    y-slope = h ∙ ap (cond (c .steep) 4294967296) e ∙ exchanged (c .steep) 4294967296 (slope (c .long) (c .short))
 
     pub y-bounded : Bounded (c .y) (c .long) g
     y-bounded = axis-bounded (not (c .steep)) (c .y) (c .long) (c .short) g (r .start-y) (r .shorter) (r .limit) y-slope
@@ -74,14 +72,14 @@ module _ (c : Course) (r : Runs c) (f : ℕ) (e : f ≡ slope (c .long) (c .shor
     unfolding courseCell spotAt
     y-over first s =
         axis-over (not (c .steep)) (c .y) (c .long) (c .short) g (r .start-y) (r .shorter) (r .limit) y-slope first true s
-        ∙ (λ j. over (λ (i : ℕ). unmoved (c .y + exchanged (c .steep) (rise (c .long) (c .short) (numberAt first (c .long) i)) (numberAt first (c .long) i) j)) (c .long + 1) s)
+        ∙ (λ j. over (λ (i : ℕ). unmoved (c .y + sym (exchanged (c .steep) (numberAt first (c .long) i) (rise (c .long) (c .short) (numberAt first (c .long) i))) j)) (c .long + 1) s)
 
 -- the course of two lifted ends, listed from the first named
 module _ (a b : Cell) (p q : Spot) (P : LiftedCell a p) (Q : LiftedCell b q) where
   listed-is : (i : ℕ) → i < courseOf p q .long + 1 → courseCell (lesserSpot p q) (courseOf p q) i ≡ listed a b i
   unfolding courseCell listed
   listed-is i l =
-      course-cell a b p q P Q (numberAt (lesserSpot p q) (courseOf p q .long) i) (omega (arith, number-le (lesserSpot p q) (courseOf p q .long) i (omega arith), course-runs a b p q P Q .limit))
+      course-cell a b p q P Q (numberAt (lesserSpot p q) (courseOf p q .long) i) (omega (arith, from-either (lesserSpot p q) i (courseOf p q .long) (omega arith), course-runs a b p q P Q .limit))
       ∙ (λ j. nth a b (numberAt (lesser-is a b p q P Q j) (course-long a b p q P Q j) i))
 
   pub course-listed : (coordinate : Cell → ℤ) (s : List ℤ) → long a b < length s

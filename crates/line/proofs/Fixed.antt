@@ -3,7 +3,7 @@
 use Prim.Native.Nat.{ℕ, zero, suc, _+_, _*_, _/_, _%_, _≤_, _<_, _^_}
 use mathlib.Core.Path.{_≡_, refl, sym, ap, _∙_}
 use mathlib.Core.Bool.{Bool, true, false, cond}
-use native.Mathlib.Nat.{div-zero, div-lt-iff-lt-mul, div-eq-of-lt, mul-le-mul, mul-le-mul-left, mul-le-mul-right}
+use native.Mathlib.Nat.{div-zero, div-lt-iff-lt-mul, mul-le-mul, mul-le-mul-left, mul-le-mul-right}
 use native.Mathlib.Omega.{arith}
 use borrow.Author.Tests.{ltb-true, ltb-false}
 use lib.Dec.{ltb}
@@ -11,18 +11,10 @@ use Rattle.laws.proofs.Floor.{div-is, div-low, div-high}
 use Rattle.laws.proofs.Products.{mul-lt-back}
 use Rattle.line.specs.Rule.{rise}
 use Rattle.line.specs.Fixed.{slope, tally}
+use Rattle.line.proofs.Rise.{rise-low, rise-high, rise-start}
 
--- no steps at the start
-half : (m : ℕ) → m / (2 * m) ≡ 0
-half zero = refl
-half (suc m) = div-eq-of-lt (omega arith)
-
-pub rise-start : (l s : ℕ) → rise l s 0 ≡ 0
-unfolding rise
-rise-start l s = let e : 2 * (0 * s) + l ≡ l = omega arith in ap (λ (m : ℕ). m / (2 * l)) e ∙ half l
-
--- the bounds that make the quotients
-module _ (l s n : ℕ) (p : 0 < l) where
+-- the bounds that make the slope
+module _ (l s : ℕ) (p : 0 < l) where
   slope-low : slope l s * l ≤ s * 4294967295
   unfolding slope
   slope-low = div-low (s * 4294967295) l
@@ -30,14 +22,6 @@ module _ (l s n : ℕ) (p : 0 < l) where
   slope-high : s * 4294967295 < (slope l s + 1) * l
   unfolding slope
   slope-high = div-high (s * 4294967295) l p
-
-  rise-low : rise l s n * (2 * l) ≤ 2 * (n * s) + l
-  unfolding rise
-  rise-low = div-low (2 * (n * s) + l) (2 * l)
-
-  rise-high : 2 * (n * s) + l < (rise l s n + 1) * (2 * l)
-  unfolding rise
-  rise-high = div-high (2 * (n * s) + l) (2 * l) (omega arith)
 
 -- over plain numbers: f the slope, q the rise
 module _ (l s n f q : ℕ) (p : 0 < l) (limit : l ≤ 32767) (small : s ≤ l) (m : n ≤ l)
@@ -67,7 +51,7 @@ tally-rise zero s (suc n) a b c = absurd (omega arith)
 tally-rise (suc l) s n a b c =
     let p : 0 < suc l = omega arith in
     whole-is (suc l) s n (slope (suc l) s) (rise (suc l) s n) p b a c
-    (slope-low (suc l) s n p) (slope-high (suc l) s n p) (rise-low (suc l) s n p) (rise-high (suc l) s n p)
+    (slope-low (suc l) s p) (slope-high (suc l) s p) (rise-low (suc l) s n) (rise-high (suc l) s n p)
 
 -- the slope and the tally fit their types
 pub slope-fits : (l s : ℕ) → s ≤ l → slope l s ≤ 4294967295

@@ -1,7 +1,7 @@
 -- From one cell of a course to the next: the byte's place, which moves by a number modulo 2^64.
 use Prim.Native.Nat.{ℕ, _+_, _-_, _*_, _%_, _≤_, _<_, _^_}
-use mathlib.Core.Path.{_≡_, ap, _∙_}
-use mathlib.Core.Bool.{Bool, true, false, cond}
+use mathlib.Core.Path.{_≡_, refl, ap, _∙_}
+use mathlib.Core.Bool.{Bool, true, false, cond, not}
 use native.Mathlib.Nat.{mod-eq-of-lt, add-mod-right, mul-le-mul}
 use native.Mathlib.Omega.{arith}
 use Rattle.sheet.specs.declared.Shape.{Shape}
@@ -10,10 +10,20 @@ use Rattle.line.specs.Rule.{rise}
 use Rattle.line.specs.Course.{stepped, spotAt}
 use Rattle.line.specs.Span.{On, byteOf, aloneBy, bothBy}
 use Rattle.line.specs.declared.Course.{Course}
+use Rattle.line.proofs.Rise.{rise-short}
 
 -- a row of the sheet starts below 2^24
 pub row-small : (w h y : ℕ) → w ≤ 4096 → h ≤ 4096 → y < h → y * w ≤ 16777216
 row-small w h y a b l = mul-le-mul {n₁ = y} {m₁ = w} {n₂ = 4096} {m₂ = 4096} (omega arith) a
+
+-- no more steps than a line has cells
+pub steps-fit : (steep : Bool) (l s n q k : ℕ) → s ≤ l → l ≤ 32767 → n ≤ l → q ≡ rise l s n → k ≡ cond steep q n → k ≤ 32767
+steps-fit true l s n q k a b c e f = omega (arith, rise-short l s n c)
+steps-fit false l s n q k a b c e f = omega arith
+
+pub exchanged : (t : Bool) (m n : ℕ) → cond t m n ≡ cond (not t) n m
+exchanged true m n = refl
+exchanged false m n = refl
 
 -- the spot that the code finds, from n steps along and q across
 pub spot-is : (c : Course) (n q k x j : ℕ) → q ≡ rise (c .long) (c .short) n → k ≡ cond (c .steep) q n → x ≡ stepped (c .right) (c .x) k → j ≡ cond (c .steep) n q

@@ -1,11 +1,11 @@
 -- A bound on the shorter extent's steps is a bound on n: k ≤ rise L S n just where (2k − 1)L ≤ 2nS.
-use Prim.Native.Nat.{ℕ, zero, suc, _+_, _-_, _*_, _/_, _≤_, _<_}
+use Prim.Native.Nat.{ℕ, _+_, _*_, _/_, _≤_, _<_}
 use mathlib.Core.Path.{_≡_, ap}
-use mathlib.Core.Bool.{Bool, true, false, cond}
 use native.Mathlib.Nat.{div-lt-iff-lt-mul, le-div-iff-mul-le, mul-le-mul, mul-le-mul-right}
 use native.Mathlib.Omega.{arith}
 use Rattle.line.specs.Rule.{rise}
 use Rattle.line.specs.Span.{Least}
+use Rattle.line.proofs.Rise.{rise-short}
 
 module _ (l s n k : ℕ) (p : 0 < l) where
   rise-from : 2 * (k * l) ≤ 2 * (n * s) + l → k ≤ rise l s n
@@ -16,26 +16,18 @@ module _ (l s n k : ℕ) (p : 0 < l) where
   unfolding rise
   rise-until h = div-lt-iff-lt-mul {k = 2 * l} {x = 2 * (n * s) + l} {y = k} (omega arith) .1 (omega arith)
 
--- no cell is further across than the shorter extent
-pub rise-top : (l s n k : ℕ) → s ≤ l → n ≤ l → s < k → rise l s n < k
-unfolding rise
-rise-top zero zero zero k a b c = omega arith
-rise-top zero zero (suc n) k a b c = absurd (omega arith)
-rise-top zero (suc s) n k a b c = absurd (omega arith)
-rise-top (suc l) s n k a b c = rise-until (suc l) s n k (omega arith) (omega (arith, mul-le-mul-right s b, mul-le-mul-right (suc l) c))
-
-module _ (k l s : ℕ) (small : s ≤ l) where
+module _ (k l s : ℕ) where
   -- no n has come so far
   pub least-none : s < k → Least k l s (l + 1)
   least-none h =
       record {
         low = omega arith;
         from = λ n a b. absurd (omega arith);
-        until = λ n a b. rise-top l s n k small a h;
+        until = λ n a b. omega (arith, rise-short l s n a);
       }
 
   -- (2k − 1)L over 2S, rounded up, with p = 2k − 1 and d = 2S − 1
-  module _ (p d : ℕ) (ep : p + 1 ≡ 2 * k) (ed : d + 1 ≡ 2 * s) (h : k ≤ s) where
+  module _ (small : s ≤ l) (p d : ℕ) (ep : p + 1 ≡ 2 * k) (ed : d + 1 ≡ 2 * s) (h : k ≤ s) where
     twice : p * l + l ≡ 2 * (k * l)
     twice = omega (arith, ap (λ (z : ℕ). z * l) ep)
 
@@ -54,8 +46,3 @@ module _ (k l s : ℕ) (small : s ≤ l) where
     -- the dividend fits
     pub dividend-fits : l ≤ 32767 → p * l + d ≤ 2147483647
     dividend-fits b = omega (arith, twice, mul-le-mul {n₁ = k} {m₁ = l} {n₂ = 32767} {m₂ = 32767} (omega arith) (omega arith))
-
--- nor further along than the longer
-pub steps-fit : (steep : Bool) (l s n q k : ℕ) → s ≤ l → l ≤ 32767 → n ≤ l → q ≡ rise l s n → k ≡ cond steep q n → k ≤ 32767
-steps-fit true l s n q k a b c e f = let h = rise-top l s n (s + 1) a c (omega arith) in omega arith
-steps-fit false l s n q k a b c e f = omega arith

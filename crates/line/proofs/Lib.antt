@@ -22,6 +22,7 @@ pub mod Pens
 pub mod Place
 pub mod Ranges
 pub mod Replies
+pub mod Rise
 pub mod Third
 pub mod Walking
 pub mod Within

@@ -1,5 +1,5 @@
 -- Painting and counting along a course: spots off the sheet add nothing, a spot on it adds one byte and one cell.
-use Prim.Native.Nat.{ℕ, zero, suc, _+_, _-_, _*_, _≤_, _<_}
+use Prim.Native.Nat.{ℕ, zero, suc, _+_, _-_, _≤_, _<_}
 use mathlib.Core.Path.{_≡_, refl, sym, ap, _∙_}
 use mathlib.Core.List.{List}
 use mathlib.Core.Bool.{Bool, true, false, cond, _||_}
@@ -7,9 +7,9 @@ use mathlib.Core.Logic.{⊎-elim}
 use native.Mathlib.Nat.{add-zero}
 use native.Mathlib.Omega.{arith}
 use lib.Dec.{T}
-use lib.ListN.{length, set}
+use lib.ListN.{set}
 use Rattle.laws.specs.Below.{any}
-use Rattle.laws.proofs.Below.{Found, any→, any-at, any-more}
+use Rattle.laws.proofs.Below.{any→, any-at, any-more}
 use Rattle.laws.proofs.Products.{lt-or-ge}
 use Rattle.laws.proofs.Tests.{same, is-false}
 use Rattle.sheet.specs.Sheet.{cellOf, isCell, paint, cellsOn}
@@ -23,9 +23,8 @@ use Rattle.sheet.proofs.Count.{cells-as, cells-none, cells-more}
 use Rattle.sheet.proofs.Marks.{spot→, mark-on}
 use Rattle.line.specs.Rule.{rise}
 use Rattle.line.specs.Course.{stepped, spotAt, Runs, firstCells}
-use Rattle.line.specs.Span.{On, stepsX, stepsY, byteOf}
+use Rattle.line.specs.Span.{On, byteOf}
 use Rattle.line.specs.declared.Course.{Course}
-use Rattle.line.proofs.Bridge.{rise-le}
 
 module _ (k : Shape) (c : Course) where
   -- a spot that is a cell of the sheet is on it

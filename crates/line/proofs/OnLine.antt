@@ -12,6 +12,7 @@ use Rattle.sheet.proofs.Cells.{is-cell→, is-cell-refl}
 use Rattle.line.specs.Rule.{lesser, long, nth, onLine}
 use Rattle.line.specs.Listing.{listed}
 use Rattle.line.proofs.EitherEnd.{long-sym, nth-either}
+use Rattle.line.proofs.Rise.{from-either}
 
 -- exchanging the ends gives the same cells
 pub onLine-either : (a b c : Cell) → onLine a b c ≡ onLine b a c
@@ -20,11 +21,7 @@ onLine-either a b c =
     any-as (long a b + 1) (λ (n : ℕ). isCell (nth a b n) c) (λ (n : ℕ). isCell (nth b a n) c) (λ n l. ap (λ (d : Cell). isCell d c) (nth-either a b n))
     ∙ ap (λ (k : ℕ). any (k + 1) (λ (n : ℕ). isCell (nth b a n) c)) (long-sym b a)
 
--- n counted from the first named end, or from the second, is a number of the line; counted so twice it is n
-counted-within : (t : Bool) (L n : ℕ) → n ≤ L → cond t n (L - n) ≤ L
-counted-within true L n l = l
-counted-within false L n l = omega arith
-
+-- n counted twice from either end is n
 counted-twice : (t : Bool) (L n : ℕ) → n ≤ L → cond t (cond t n (L - n)) (L - cond t n (L - n)) ≡ n
 counted-twice true L n l = refl
 counted-twice false L n l = omega arith
@@ -34,7 +31,7 @@ pub listed-on : (a b : Cell) (n : ℕ) → n ≤ long a b → T (onLine a b (lis
 unfolding onLine listed
 listed-on a b n l =
     let k = cond (lesser a b) n (long a b - n) in
-    let w = counted-within (lesser a b) (long a b) n l in
+    let w = from-either (lesser a b) n (long a b) l in
     any-at (long a b + 1) (λ (m : ℕ). isCell (nth a b m) (nth a b k)) k (omega arith) (is-cell-refl (nth a b k))
 
 -- and each cell of the line is listed
@@ -50,6 +47,6 @@ on-listed a b c t =
     let l : f .at ≤ long a b = omega (arith, f .below) in
     record {
       number = cond (lesser a b) (f .at) (long a b - f .at);
-      within = counted-within (lesser a b) (long a b) (f .at) l;
+      within = from-either (lesser a b) (f .at) (long a b) l;
       is-cell = is-cell→ (nth a b (f .at)) c (f .passes) ∙ ap (nth a b) (sym (counted-twice (lesser a b) (long a b) (f .at) l));
     }

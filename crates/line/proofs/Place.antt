@@ -11,8 +11,9 @@ use Rattle.line.specs.Listing.{listed}
 use Rattle.line.specs.Chain.{Touch}
 use Rattle.line.specs.Distance.{alongBy, acrossBy, along}
 use Rattle.line.proofs.Axis.{steps-toward, toward-first, toward-last, toward-apart, toward-back, toward-rest}
-use Rattle.line.proofs.EitherEnd.{short-long, long-sym, short-sym, steep-sym}
-use Rattle.line.proofs.Across.{crossed, rise-within}
+use Rattle.line.proofs.EitherEnd.{long-sym, short-sym, steep-sym}
+use Rattle.line.proofs.Across.{crossed}
+use Rattle.line.proofs.Rise.{rise-short}
 
 -- the cell n along and m across, both from a towards b, where `up` says whether y is called the longer extent
 abbrev atBy : Bool → Cell → Cell → ℕ → ℕ → Cell
@@ -89,6 +90,6 @@ listed-at a b n l = by (lesser a b)
         ≡ at a b n (crossed t (long a b) (short a b) n)
     by true = refl
     by false =
-        let k = rise-within (long a b) (short a b) (long a b - n) (short-long a b) (omega arith) in
+        let k = rise-short (long a b) (short a b) (long a b - n) (omega arith) in
         (λ i. at b a (long a b - n) (rise (long-sym a b i) (short-sym a b i) (long a b - n)))
         ∙ at-back a b n (rise (long a b) (short a b) (long a b - n)) l k

@@ -1,8 +1,7 @@
 -- A line whose ends are within the limits stays within them.
-use Prim.Native.Nat.{ℕ, zero, suc, _+_, _-_, _*_, _/_, _≤_, _<_}
-use mathlib.Core.Path.{_≡_, refl, sym, ap, _∙_}
+use Prim.Native.Nat.{ℕ, _+_, _-_, _≤_}
+use mathlib.Core.Path.{_≡_, refl, ap, _∙_}
 use mathlib.Core.Bool.{Bool, true, false, cond}
-use native.Mathlib.Nat.{mul-le-mul-right, div-lt-iff-lt-mul, div-zero}
 use native.Mathlib.Omega.{arith}
 use lib.IntN.{ℤ, pos, natAbs, _+ℤ_, _-ℤ_}
 use lib.Signed.{leZ}
@@ -13,26 +12,12 @@ use Rattle.sheet.specs.Inner.{loweredCell}
 use Rattle.sheet.specs.declared.Cell.{Cell}
 use Rattle.sheet.specs.declared.Spot.{Spot}
 use Rattle.sheet.proofs.Limits.{LiftedCell, limit-low, limit-high, limit-in, limits-x, limits-y, lowered-cell}
-use Rattle.line.specs.Rule.{lesser, wide, tall, longer, long, steep, rise, toward, fromLesser, nth}
+use Rattle.line.specs.Rule.{lesser, wide, tall, long, steep, rise, toward, fromLesser, nth}
 use Rattle.line.specs.Listing.{listed}
-use Rattle.line.specs.Course.{stepped, alongX, alongY, spotAt, lesserSpot, courseOf}
-use Rattle.line.specs.declared.Course.{Course}
+use Rattle.line.specs.Course.{spotAt, lesserSpot, courseOf}
 use Rattle.line.proofs.Bridge.{lesser-is, course-cell, course-long, long-limit}
 use Rattle.line.proofs.EitherEnd.{long-sym}
-
--- the steps along the shorter extent are no more than it is long
-rise-short : (L S n : ℕ) → n ≤ L → rise L S n ≤ S
-unfolding rise
-rise-short zero S n l = omega (arith, div-zero (2 * (n * S) + 0))
-rise-short (suc L) S n l =
-    let h : (2 * (n * S) + suc L) / (2 * suc L) < S + 1 = div-lt-iff-lt-mul {k = 2 * suc L} {x = 2 * (n * S) + suc L} {y = S + 1} (omega arith) .1 (omega (arith, mul-le-mul-right S l)) in
-    omega arith
-
--- where the extents are 0, so are the steps
-pub rise-none : (L S n : ℕ) → L < 1 → 0 ≡ rise L S n
-unfolding rise
-rise-none zero S n l = sym (div-zero (2 * (n * S) + 0))
-rise-none (suc L) S n l = absurd (omega arith)
+use Rattle.line.proofs.Rise.{rise-short, from-either}
 
 -- no more steps from z than there are to w
 toward-in : (z w : ℤ) (k : ℕ) → coordinate z ≡ true → coordinate w ≡ true → k ≤ natAbs (w -ℤ z) → coordinate (toward z w k) ≡ true
@@ -78,18 +63,6 @@ nth-in a b n e f l = by (lesser a b)
     by : (t : Bool) → inLimits (cond t (fromLesser a b n) (fromLesser b a n)) ≡ true
     by true = from-in a b n e f l
     by false = from-in b a n f e m
-
--- the nth spot of a course, by its steps along the shorter extent
-pub spot-is : (c : Course) (n q x : ℕ) (t : Bool) → c .steep ≡ t → q ≡ rise (c .long) (c .short) n → x ≡ stepped (c .right) (c .x) (alongX t n q)
-    → record { x = x; y = c .y + alongY t n q } ≡ spotAt c n
-unfolding spotAt
-spot-is c n q x t e g h =
-    λ i. record { x = (h ∙ (λ j. stepped (c .right) (c .x) (alongX (sym e j) n (g j)))) i; y = c .y + alongY (sym e i) n (g i) }
-
--- a number of the line counted from either end
-pub from-either : (t : Bool) (n L : ℕ) → n ≤ L → cond t n (L - n) ≤ L
-from-either true n L l = l
-from-either false n L l = omega arith
 
 -- the nth cell of the listing, by the course of the two lifted ends
 pub listed-cell : (a b : Cell) (p q : Spot) → inLimits a ≡ true → inLimits b ≡ true → LiftedCell a p → LiftedCell b q → (n : ℕ) → n ≤ long a b

@@ -1,7 +1,7 @@
 -- Document 01, "Lines": the listing, from the first named end to the second.
 use Prim.Native.Nat.{ℕ, zero, suc, _+_, _-_}
 use mathlib.Core.List.{List, [], _∷_, _++_, map}
-use mathlib.Core.Bool.{Bool, cond, _&&_}
+use mathlib.Core.Bool.{cond, _&&_}
 use lib.Dec.{leb}
 use lib.ListN.{drop}
 use lib.IntN.{ℤ, pos}

@@ -1,6 +1,5 @@
 -- The part of a course that is on the sheet, as a range of n. Inner contracts only: no public contract cites this module.
 use Prim.Native.Nat.{ℕ, _+_, _-_, _*_, _≤_, _<_}
-use mathlib.Core.Path.{_≡_}
 use mathlib.Core.Bool.{Bool, true, cond}
 use mathlib.Core.Logic.{_⊎_}
 use Rattle.sheet.specs.declared.Shape.{Shape}

@@ -16,7 +16,7 @@ use crate::Course;
 use crate::chosen;
 use crate::course_of;
 use crate::slope_of;
-use crate::stepped_by;
+use crate::spot_of;
 use sheet::Cell;
 use sheet::Counted;
 use sheet::Refusal;
@@ -126,11 +126,9 @@ fn byte_at(shape: Shape, course: Course, n: u32, q: u32) -> usize
     requires { ⌜ (n ≤ course .long) × (q ≡ rise (course .long) (course .short) n) × On shape (spotAt course n) ⌝ }
     ensures { λ r. ⌜ r ≡ byteOf shape (spotAt course n) ⌝ }
 {
-    let steep = course.steep;
     let width = shape.width;
-    let x = stepped_by(course.right, course.x, chosen(steep, q, n));
-    let y = course.y + chosen(steep, n, q);
-    (y - 65536) as usize * width as usize + (x - 65536) as usize
+    let spot = spot_of(course, n, q);
+    (spot.y - 65536) as usize * width as usize + (spot.x - 65536) as usize
 }
 
 // What a step along the longer extent alone adds to a byte's place, and what a step along both adds, modulo 2^64.

@@ -2,7 +2,8 @@
 ghost use mathlib.Core.Path.{_≡_};
 ghost use mathlib.Core.Bool.{cond};
 ghost use Prim.Native.Nat.{_≤_};
-ghost use Rattle.line.specs.Course.{gap, stepped, lesserSpot, courseFrom, courseOf};
+ghost use Rattle.line.specs.Course.{gap, stepped, spotAt, lesserSpot, courseFrom, courseOf, Runs};
+ghost use Rattle.line.specs.Rule.{rise};
 ghost use Rattle.line.specs.Fixed.{slope};
 use sheet::Spot;
 
@@ -85,6 +86,18 @@ fn course_of(a: Spot, b: Spot) -> Course
         y: chosen(first, b.y, a.y),
     };
     course_from(low, high)
+}
+
+// The nth spot of a course, q steps along the shorter extent.
+fn spot_of(course: Course, n: u32, q: u32) -> Spot
+    requires { ⌜ Runs course × (n ≤ course .long) × (q ≡ rise (course .long) (course .short) n) ⌝ }
+    ensures { λ r. ⌜ r ≡ spotAt course n ⌝ }
+{
+    let steep = course.steep;
+    Spot {
+        x: stepped_by(course.right, course.x, chosen(steep, q, n)),
+        y: course.y + chosen(steep, n, q),
+    }
 }
 
 // The shorter extent over the longer, in parts of 2^32 (rounded down, and a little less, so that it fits).

@@ -11,10 +11,9 @@ use crate::Course;
 use crate::chosen;
 use crate::course_of;
 use crate::is_lesser;
-use crate::stepped_by;
+use crate::spot_of;
 use sheet::Cell;
 use sheet::Refusal;
-use sheet::Spot;
 use sheet::lift_cell;
 use sheet::lower_cell;
 
@@ -54,31 +53,13 @@ fn rise_of(l: u32, s: u32, n: u32) -> u32
     (2 * (n * s) + l) / (2 * l)
 }
 
-// The nth spot of a course.
-fn spot_at(course: Course, n: u32) -> Spot
-    requires { ⌜ Runs course × (n ≤ course .long) ⌝ }
-    ensures { λ r. ⌜ r ≡ spotAt course n ⌝ }
-{
-    let q = rise_of(course.long, course.short, n);
-    if course.steep {
-        Spot {
-            x: stepped_by(course.right, course.x, q),
-            y: course.y + n,
-        }
-    } else {
-        Spot {
-            x: stepped_by(course.right, course.x, n),
-            y: course.y + q,
-        }
-    }
-}
-
 // The nth cell of a course, counted forward from its lesser end or back from the other.
 fn cell_at(course: Course, forward: bool, n: u32) -> Cell
     requires { ⌜ Runs course × (n ≤ course .long) ⌝ }
     ensures { λ r. ⌜ r ≡ loweredCell (spotAt course (cond forward n (course .long - n))) ⌝ }
 {
-    lower_cell(spot_at(course, chosen(forward, n, course.long - n)))
+    let m = chosen(forward, n, course.long - n);
+    lower_cell(spot_of(course, m, rise_of(course.long, course.short, m)))
 }
 
 impl Pen {

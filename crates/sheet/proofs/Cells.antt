@@ -1,16 +1,16 @@
 -- The cells of a sheet and their bytes.
-use Prim.Native.Nat.{ℕ, suc, _+_, _-_, _*_, _/_, _%_, _≤_, _<_}
-use mathlib.Core.Path.{_≡_, refl, sym, subst, ap, _∙_}
-use mathlib.Core.Bool.{Bool, true, false, _&&_}
+use Prim.Native.Nat.{ℕ, _+_, _-_, _*_, _<_}
+use mathlib.Core.Path.{_≡_, subst}
+use mathlib.Core.Bool.{true, _&&_}
 use native.Mathlib.Omega.{arith}
-use native.Mathlib.Nat.{div-add-mod', mod-lt, div-lt-iff-lt-mul, mul-comm}
+use native.Mathlib.Nat.{div-add-mod', mul-comm}
 use lib.Arith.{digits-lt, digits-div, digits-mod}
-use lib.Dec.{T, leb, ltb, eqb, eqb→eq, leb→le, ltb→lt, lt→ltb, le→leb}
-use lib.IntN.{ℤ, pos, negsuc, natAbs}
+use lib.Dec.{T, leb, ltb, ltb→lt, lt→ltb, le→leb}
+use lib.IntN.{ℤ, pos}
 use lib.Signed.{leZ, ltZ}
-use Rattle.laws.specs.Parts.{up, dn, eqZ}
+use Rattle.laws.specs.Parts.{up, eqZ}
 use Rattle.laws.proofs.Ints.{le-parts, lt-parts, to-≡ℤ, one-zero, eqZ→≡, eqZ-refl}
-use Rattle.laws.proofs.Tests.{and-l, and-r, and-i, same, is-true, is-false, from-true, eqb-of}
+use Rattle.laws.proofs.Tests.{and-l, and-r, and-i, is-true, from-true}
 use Rattle.sheet.specs.Sheet.{bytes, onSheet, place, cellOf, cellAt, isCell}
 use Rattle.sheet.specs.declared.Cell.{Cell}
 use Rattle.sheet.specs.declared.Shape.{Shape}

@@ -1,19 +1,19 @@
 -- The limits, as the code meets them: a slice that fits, a coordinate on the moved plane.
-use Prim.Native.Nat.{ℕ, _+_, _-_, _*_, _≤_, _<_}
+use Prim.Native.Nat.{ℕ, _+_, _-_, _≤_, _<_}
 use mathlib.Core.Path.{_≡_, refl, sym, subst, ap, _∙_}
 use mathlib.Core.List.{List}
-use mathlib.Core.Bool.{Bool, true, false, cond, _&&_, not}
+use mathlib.Core.Bool.{Bool, true, false, _&&_, not}
 use native.Mathlib.Omega.{arith}
 use borrow.Author.Tests.{eqb-true, eqb-false, le-leb, eq-eqb}
 use lib.ListN.{length}
 use lib.Dec.{T, leb, eqb, leb→le, le→leb, eqb→eq}
-use lib.IntN.{ℤ, pos, negsuc, negℤ, natAbs, subℕ, _+ℤ_, _-ℤ_}
+use lib.IntN.{ℤ, pos, negsuc}
 use lib.Signed.{leZ}
 use mir.Syntax.{w32}
 use mir.Val.{SFits, toZ, ofZ}
 use mir.Facts.{toZ-ofZ}
 use Rattle.laws.specs.Parts.{up, dn}
-use Rattle.laws.proofs.Ints.{le-parts, one-zero, parts, to-≡ℤ, up-sub, dn-sub, is-leZ, no-leZ}
+use Rattle.laws.proofs.Ints.{le-parts, one-zero, parts, to-≡ℤ, is-leZ, no-leZ}
 use Rattle.laws.proofs.Tests.{and-l, and-r, and-i, same, is-true, from-true}
 use Rattle.sheet.specs.Sheet.{size, bytes, fits, coordinate, inLimits, cellOf}
 use Rattle.sheet.specs.Inner.{moved, unmoved, movedCell, unmovedCell, lowered, loweredCell, Moved, Sheet}

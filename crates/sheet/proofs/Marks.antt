@@ -1,10 +1,10 @@
 -- One cell of the moved plane: the byte that it is, and that it is none off the sheet.
 use Prim.Native.Nat.{ℕ, _+_, _-_, _*_, _≤_, _<_}
-use mathlib.Core.Path.{_≡_, sym, ap, _∙_}
+use mathlib.Core.Path.{_≡_, sym, ap}
 use mathlib.Core.List.{List}
 use native.Mathlib.Omega.{arith}
 use native.Mathlib.Nat.{mul-le-mul}
-use lib.ListN.{length, set}
+use lib.ListN.{set}
 use lib.Dec.{T}
 use lib.IntN.{pos}
 use Rattle.laws.proofs.Ints.{from-≡ℤ, up-sub, dn-sub}

@@ -1,16 +1,15 @@
 -- The laws of painting: what loops carry, and what a reader may conclude.
-use Prim.Native.Nat.{ℕ, _*_, _<_}
+use Prim.Native.Nat.{ℕ, _<_}
 use mathlib.Core.Path.{_≡_, refl, sym, subst, ap, _∙_}
 use mathlib.Core.List.{List}
 use mathlib.Core.Bool.{Bool, true, false, cond, _&&_, _||_}
-use native.Mathlib.Omega.{arith}
 use lib.ListN.{length, getD, set}
 use lib.Dec.{T, eqb, eqb→eq}
-use Rattle.laws.proofs.Tests.{and-l, and-r, and-i, same, is-true, is-false, from-true, eqb-of}
-use Rattle.sheet.specs.Sheet.{onSheet, place, cellOf, cellAt, held, byPlace, paint, isCell}
+use Rattle.laws.proofs.Tests.{and-r, and-i, same, from-true, eqb-of}
+use Rattle.sheet.specs.Sheet.{onSheet, place, cellOf, cellAt, held, paint, isCell}
 use Rattle.sheet.specs.declared.Cell.{Cell}
 use Rattle.sheet.specs.declared.Shape.{Shape}
-use Rattle.sheet.proofs.Cells.{OnSheet, on-sheet, sheet-cell, in-sheet, is-cell→, is-cell-refl, cell-at-place, place-cell-at}
+use Rattle.sheet.proofs.Cells.{on-sheet, sheet-cell, in-sheet, is-cell→, is-cell-refl, cell-at-place, place-cell-at}
 use Rattle.sheet.proofs.Places.{length-by, getD-by, by-as, by-none, by-then, by-one}
 
 -- two inks of one place

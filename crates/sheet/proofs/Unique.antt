@@ -1,8 +1,7 @@
 -- Two replies that meet one statement are equal: the table is one-to-one, and so is the telling of each reply.
 use Prim.Native.Nat.{ℕ}
 use mathlib.Core.Path.{_≡_, refl, sym, ap, _∙_}
-use mathlib.Core.List.{List, [], _∷_}
-use mathlib.Core.Bool.{Bool, true, false, cond}
+use mathlib.Core.Bool.{false, cond}
 use lib.ListN.{getD}
 use lib.Dec.{eqb}
 use lib.IntN.{pos, natAbs}

@@ -1,10 +1,9 @@
 -- The moved plane, on which the code works: a coordinate z is held as z + 65,536, so that none is below 0, nor one of them less a radius.
-use Prim.Native.Nat.{ℕ, _+_, _*_, _≤_}
+use Prim.Native.Nat.{ℕ, _+_, _≤_}
 use mathlib.Core.Path.{_≡_}
 use mathlib.Core.List.{List}
-use mathlib.Core.Bool.{Bool, cond, _&&_}
+use mathlib.Core.Bool.{cond}
 use lib.ListN.{length}
-use lib.Dec.{leb}
 use lib.IntN.{ℤ, pos, natAbs, _+ℤ_, _-ℤ_}
 use Rattle.sheet.specs.Sheet.{coordinate, bytes}
 use Rattle.sheet.specs.declared.Cell.{Cell}

@@ -1,7 +1,7 @@
 -- `curve::draw_curve` meets its contract.
-use Prim.Native.Nat.{ℕ, _+_, _^_}
+use Prim.Native.Nat.{_+_, _^_}
 use mathlib.Core.Path.{_≡_, sym, subst, ap, _∙_}
-use mathlib.Core.Bool.{true, false}
+use mathlib.Core.Bool.{true}
 use mathlib.Core.List.{[], _∷_}
 use denote.Ref.{now}
 use lib.ListN.{length}
@@ -10,7 +10,7 @@ use Rattle.laws.proofs.Tests.{no, yes}
 use Rattle.sheet.specs.Sheet.{fits, paint}
 use Rattle.sheet.proofs.Limits.{fits-sheet}
 use Rattle.curve.specs.Draw.{allInLimits}
-use Rattle.curve.specs.Inner.{Bends, controlsOf, firstPieces}
+use Rattle.curve.specs.Inner.{Bends, firstPieces}
 use Rattle.curve.specs.declared.Controls.{Controls}
 use Rattle.curve.proofs.Joining.{isIn}
 use Rattle.curve.proofs.Answers.{bends, curve-size, curve-control, curve-pieces, curve-joined, curve-done}

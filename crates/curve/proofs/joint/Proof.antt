@@ -1,6 +1,5 @@
 -- `curve::joint` meets its contract.
-use Prim.Native.Nat.{ℕ, _-_, _+_, _*_, _/_}
-use mathlib.Core.Path.{_∙_}
+use Prim.Native.Nat.{_-_, _+_, _*_, _/_}
 use native.Mathlib.Omega.{arith}
 use Rattle.curve.proofs.Fits.{Small, small, twice-square}
 use borrow.Author.Needs.{needs}

@@ -1,14 +1,11 @@
 -- `sheet::in_limits` meets its contract.
-use mathlib.Core.Path.{ap, sym}
+use mathlib.Core.Path.{ap}
 use Rattle.sheet.specs.Sheet.{inLimits}
 use Rattle.sheet.specs.declared.Spot.{Spot}
 use Rattle.sheet.proofs.Limits.{lifted, not-lifted, is-lifted}
 use borrow.Author.Needs.{needs}
 use Rattle.sheet.proofs.in_limits.Statement.{statement}
 use Rattle.sheet.proofs.in_limits.Tie as tie
-use Rattle.sheet.proofs.in_limits.Reads as reads
-use Rattle.sheet.proofs.in_limits.Lts as lts
-use Rattle.sheet.proofs.lift_cell.Reads as lift-cell-reads
 
 lift-cell-requires : tie.Need-lift-cell-requires
 lift-cell-requires c κs = search needs

@@ -8,8 +8,6 @@ use borrow.Author.Needs.{needs}
 use Rattle.sheet.proofs.Marks.{mark-off, mark-on, place-small}
 use Rattle.sheet.proofs.ink_at.Statement.{statement}
 use Rattle.sheet.proofs.ink_at.Tie as tie
-use Rattle.sheet.proofs.ink_at.Reads as reads
-use Rattle.sheet.proofs.ink_at.Lts as lts
 
 returns : tie.Need-returns
 returns c =

@@ -1,8 +1,7 @@
 -- `sheet::lift` meets its contract.
-use lib.IntN.{ℤ, pos, negsuc, _+ℤ_}
+use lib.IntN.{pos, _+ℤ_}
 use mathlib.Core.Path.{_≡_, sym}
 use mathlib.Core.Bool.{true}
-use native.Mathlib.Omega.{arith}
 use mir.Syntax.{w32}
 use mir.Val.{SFits}
 use Rattle.laws.proofs.Ints.{ints, parts, back, known, to-sfits, to-cast, one-zero}
@@ -10,8 +9,6 @@ use Rattle.sheet.specs.Sheet.{coordinate}
 use Rattle.sheet.proofs.Limits.{limit-below, limit-above, limit-in, moved-out, moved-is}
 use Rattle.sheet.proofs.lift.Statement.{statement}
 use Rattle.sheet.proofs.lift.Tie as tie
-use Rattle.sheet.proofs.lift.Reads as reads
-use Rattle.sheet.proofs.lift.Lts as lts
 
 returns : tie.Need-returns
 returns c =

@@ -3,9 +3,6 @@ use Rattle.sheet.proofs.Limits.{moved-back}
 use borrow.Author.Needs.{needs}
 use Rattle.sheet.proofs.lift_cell.Statement.{statement}
 use Rattle.sheet.proofs.lift_cell.Tie as tie
-use Rattle.sheet.proofs.lift_cell.Reads as reads
-use Rattle.sheet.proofs.lift_cell.Lts as lts
-use Rattle.sheet.proofs.lift.Reads as lift-reads
 
 lift-requires : tie.Need-lift-requires
 lift-requires c κs = search needs

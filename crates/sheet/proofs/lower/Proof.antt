@@ -1,8 +1,6 @@
 -- `sheet::lower` meets its contract.
 use Prim.Native.Nat.{_<_, _^_}
-use mathlib.Core.Path.{sym}
 use native.Mathlib.Omega.{arith}
-use lib.IntN.{pos, _-ℤ_}
 use mir.Syntax.{w32}
 use mir.Val.{SFits, hbits}
 use borrow.Author.Needs.{needs}
@@ -11,8 +9,6 @@ use Rattle.sheet.specs.Inner.{unmoved}
 use Rattle.sheet.proofs.Limits.{lowered-is, lowered-below, lowered-above}
 use Rattle.sheet.proofs.lower.Statement.{statement}
 use Rattle.sheet.proofs.lower.Tie as tie
-use Rattle.sheet.proofs.lower.Reads as reads
-use Rattle.sheet.proofs.lower.Lts as lts
 
 returns : tie.Need-returns
 returns c = lowered-below (c .before .args .m) (search needs)

@@ -5,12 +5,6 @@ use Rattle.sheet.proofs.Refused.{mark-size, mark-coordinate, mark-done}
 use borrow.Author.Needs.{needs}
 use Rattle.sheet.proofs.mark.Statement.{statement}
 use Rattle.sheet.proofs.mark.Tie as tie
-use Rattle.sheet.proofs.mark.Reads as reads
-use Rattle.sheet.proofs.mark.Lts as lts
-use Rattle.sheet.proofs.fits.Reads as fits-reads
-use Rattle.sheet.proofs.in_limits.Reads as in-limits-reads
-use Rattle.sheet.proofs.ink_at.Reads as ink-at-reads
-use Rattle.sheet.proofs.lift_cell.Reads as lift-cell-reads
 
 fits-requires : tie.Need-fits-requires
 fits-requires c κs = search needs

@@ -13,7 +13,7 @@ add-result : tie.Need-add-result
 add-result c = search needs
 
 returns-2 : tie.Need-returns-2
-returns-2 c = let a = c .before .before .args in least-none (a .k) (a .l) (a .s) (omega arith) (c .if2 .taken)
+returns-2 c = let a = c .before .before .args in least-none (a .k) (a .l) (a .s) (c .if2 .taken)
 
 mul-m : tie.Need-mul-m
 mul-m c = search needs

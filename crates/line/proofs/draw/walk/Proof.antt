@@ -1,6 +1,6 @@
 -- `line::draw::walk` meets its contract.
 use Prim.Native.Nat.{ℕ, _-_, _/_, _%_, _≤_, _^_}
-use mathlib.Core.Path.{_≡_, sym, refl, ap, _∙_}
+use mathlib.Core.Path.{sym, refl, ap, _∙_}
 use native.Mathlib.Omega.{arith}
 use denote.Ref.{now}
 use Rattle.line.proofs.Fixed.{tally-is, tally-rise}

@@ -5,7 +5,8 @@ use native.Mathlib.Omega.{arith}
 use lib.ListN.{length}
 use denote.Ref.{now}
 use Rattle.line.specs.Along.{over, along}
-use Rattle.line.proofs.Along.{Running, begins, turn, number-first, number-le, gain-le, within, over-length}
+use Rattle.line.proofs.Rise.{from-either}
+use Rattle.line.proofs.Along.{Running, begins, turn, number-first, gain-le, within, over-length}
 use Rattle.line.proofs.listing.list_along.Statement.{statement}
 use Rattle.line.proofs.listing.list_along.Tie as tie
 
@@ -34,7 +35,7 @@ reached-at-requires c κs =
     let start = c .before .before in
     let a = start .args in
     let n = c .chosen .result in
-    (start .pre .0, omega (arith, number-first (a .first) (a .l) n (c .chosen .ensures), number-le (a .first) (a .l) 0 (omega arith)))
+    (start .pre .0, omega (arith, number-first (a .first) (a .l) n (c .chosen .ensures), from-either (a .first) 0 (a .l) (omega arith)))
 
 loop-holds : tie.Need-loop-holds Inv-loop μ-loop
 loop-holds c =

@@ -1,16 +1,19 @@
 -- `line::pen::rise_of` meets its contract.
-use Prim.Native.Nat.{_*_, _≤_}
-use mathlib.Core.Path.{refl}
+use Prim.Native.Nat.{ℕ, _*_, _≤_}
+use mathlib.Core.Path.{_≡_, refl, sym, ap, _∙_}
 use native.Mathlib.Nat.{mul-le-mul}
 use native.Mathlib.Omega.{arith}
 use Rattle.line.specs.Rule.{rise}
-use Rattle.line.proofs.Within.{rise-none}
+use Rattle.line.proofs.Rise.{rise-none}
 use borrow.Author.Needs.{needs}
 use Rattle.line.proofs.pen.rise_of.Statement.{statement}
 use Rattle.line.proofs.pen.rise_of.Tie as tie
 
 returns : tie.Need-returns
-returns c = let a = c .before .args in rise-none (a .l) (a .s) (a .n) (c .if1 .taken)
+returns c =
+    let a = c .before .args in
+    let e : a .l ≡ 0 = omega arith in
+    sym (ap (λ (l : ℕ). rise l (a .s) (a .n)) e ∙ rise-none (a .s) (a .n))
 
 product : (c : tie.Else1) → let a = c .before .args in a .n * a .s ≤ 1073676289
 product c = let a = c .before .args in mul-le-mul {n₁ = a .n} {m₁ = a .s} {n₂ = 32767} {m₂ = 32767} (omega arith) (omega arith)
