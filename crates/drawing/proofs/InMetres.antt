@@ -1,0 +1,105 @@
+-- The answer and the sheet at each return of drawing a figure in metres.
+use Prim.Native.Nat.{ℕ}
+use mathlib.Core.Path.{_≡_, refl, sym, subst, ap, _∙_}
+use mathlib.Core.List.{List, [], _∷_}
+use mathlib.Core.Bool.{Bool, true, false, _&&_}
+use lib.ListN.{length}
+use lib.Dec.{T}
+use lib.IntN.{ℤ, pos, natAbs}
+use lib.Signed.{leZ, ltZ, nonNeg}
+use mir.Syntax.{w32}
+use mir.Val.{SFits, Fits, toZ, ofZ}
+use Rattle.laws.proofs.Ints.{ints, back, known, to-cast, is-leZ, no-leZ}
+use Rattle.sheet.specs.Sheet.{fits, inLimits, cellsOn, paint}
+use Rattle.sheet.specs.Reply.{Answer, done, refuse, unless, settled}
+use Rattle.sheet.specs.declared.Cell.{Cell}
+use Rattle.sheet.specs.declared.Shape.{Shape}
+use Rattle.sheet.specs.declared.Refusal.the-variants.{Size, Radius}
+use Rattle.line.specs.Rule.{onLine}
+use Rattle.line.specs.Draw.{lineAnswer}
+use Rattle.ring.specs.Ring.{around}
+use Rattle.ring.specs.Answer.{radius, semiAxes, ringAnswer}
+use Rattle.survey.specs.Metres.{inCells, toldInCells}
+use Rattle.survey.specs.declared.Survey.{Survey}
+use Rattle.survey.specs.declared.Metres.{Metres}
+use Rattle.survey.specs.declared.InCells.{InCells}
+use Rattle.survey.proofs.Unique.{in-cells-one}
+use Rattle.survey.proofs.Within.{Within, in-cells-within}
+use Rattle.drawing.specs.Metres.{isRadius, areSemiAxes, cellsAnswer, onCells, metresAnswer, onMetres}
+
+-- what the test that a length is below 0 shows of it, and of its cast
+module _ (z : ℤ) (f : SFits w32 z) where
+  pub below : ltZ (toZ w32 (ofZ w32 z)) (pos 0) ≡ true → leZ (pos 0) z ≡ false
+  below e = let k = known f in no-leZ (pos 0) z (omega ints)
+
+  pub not-below : ltZ (toZ w32 (ofZ w32 z)) (pos 0) ≡ false → leZ (pos 0) z ≡ true
+  not-below e = let k = known f in is-leZ (pos 0) z (omega ints)
+
+  pub casts : ltZ (toZ w32 (ofZ w32 z)) (pos 0) ≡ false
+      → T (nonNeg (toZ w32 (ofZ w32 z))) × Fits w32 (natAbs (toZ w32 (ofZ w32 z)))
+  casts e = let k = known f in simp back (to-cast w32 z (omega ints, omega ints))
+
+-- a length below 0 is within no limits; any other is as the ring says
+pub radius-below : (r : ℤ) → leZ (pos 0) r ≡ false → isRadius r ≡ false
+unfolding isRadius
+radius-below r e = simp e
+
+pub radius-as : (r : ℤ) → leZ (pos 0) r ≡ true → radius (natAbs r) ≡ isRadius r
+unfolding isRadius
+radius-as r e = simp e
+
+pub first-below : (a b : ℤ) → leZ (pos 0) a ≡ false → areSemiAxes a b ≡ false
+unfolding areSemiAxes
+first-below a b e = simp e
+
+pub second-below : (a b : ℤ) → leZ (pos 0) a ≡ true → leZ (pos 0) b ≡ false → areSemiAxes a b ≡ false
+unfolding areSemiAxes
+second-below a b e f = simp (e, f)
+
+pub axes-as : (a b : ℤ) → leZ (pos 0) a ≡ true → leZ (pos 0) b ≡ true → semiAxes (natAbs a) (natAbs b) ≡ areSemiAxes a b
+unfolding areSemiAxes
+axes-as a b e f = simp (e, f)
+
+module _ (k : Shape) (ink : ℕ) (s : List ℕ) (fit : fits k (length s) ≡ true) where
+  -- a line with ends within the limits
+  pub line-shown : (a b : Cell) → inLimits a ≡ true → inLimits b ≡ true → (t : List ℕ)
+      → t ≡ settled (lineAnswer k (length s) a b) (paint k ink (onLine a b) s) s
+      → (lineAnswer k (length s) a b ≡ done (pos (cellsOn k (onLine a b)) ∷ [])) × (t ≡ paint k ink (onLine a b) s)
+  unfolding lineAnswer
+  line-shown a b i j t e = (simp (fit, i, j), simp (fit, i, j) at e)
+
+  -- a ring with its centre within the limits
+  module _ (c : Cell) (inside : inLimits c ≡ true) where
+    ring-in : (limits : Bool) → ringAnswer k (length s) c limits ≡ unless limits Radius (done [])
+    unfolding ringAnswer
+    ring-in limits = simp (fit, inside)
+
+    pub ring-shown : (m n : Bool) (p q : ℕ → ℕ → Bool) (t : List ℕ) → m ≡ n → p ≡ q
+        → t ≡ settled (ringAnswer k (length s) c m) (paint k ink (around c p) s) s
+        → (ringAnswer k (length s) c m ≡ unless n Radius (done [])) × (t ≡ settled (unless n Radius (done [])) (paint k ink (around c q) s) s)
+    ring-shown m n p q t e f g = rw (← e, ← f) (ring-in m, g ∙ ap (λ (a : Answer). settled a (paint k ink (around c p) s) s) (ring-in m))
+
+-- a ring of a length outside its limits
+pub ring-outside : (limits : Bool) (drawn before : List ℕ) → limits ≡ false
+    → (refuse Radius ≡ unless limits Radius (done [])) × (before ≡ settled (unless limits Radius (done [])) drawn before)
+ring-outside limits drawn before e = simp e (refl, refl)
+
+module _ (k : Shape) (ink : ℕ) (v : Survey) (f : Metres) (s : List ℕ) where
+  pub metres-size : fits k (length s) ≡ false
+      → (refuse Size ≡ metresAnswer k (length s) v f) × (s ≡ settled (metresAnswer k (length s) v f) (paint k ink (onMetres v f) s) s)
+  unfolding metresAnswer
+  metres-size e = simp e (refl, refl)
+
+  -- the figure q in cells that was told
+  module _ (r q : InCells) (told : toldInCells r ≡ toldInCells (inCells v f)) (is : r ≡ q) where
+    found : inCells v f ≡ q
+    found = sym (in-cells-one r (inCells v f) told) ∙ is
+
+    pub metres-within : Within q
+    metres-within = subst Within found (in-cells-within v f)
+
+    pub metres-shown : fits k (length s) ≡ true → (a : Answer) (t : List ℕ) → a ≡ cellsAnswer k q
+        → t ≡ settled (cellsAnswer k q) (paint k ink (onCells q) s) s
+        → (a ≡ metresAnswer k (length s) v f) × (t ≡ settled (metresAnswer k (length s) v f) (paint k ink (onMetres v f) s) s)
+    unfolding metresAnswer onMetres
+    metres-shown fit a t e g = simp (fit, found) (e, g)

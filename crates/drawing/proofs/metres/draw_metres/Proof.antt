@@ -1,0 +1,134 @@
+-- `drawing::metres::draw_metres` meets its contract.
+use mathlib.Core.Path.{_≡_, refl}
+use mathlib.Core.Bool.{true}
+use lib.ListN.{length}
+use denote.Ref.{now}
+use borrow.Author.Needs.{needs}
+use Rattle.laws.proofs.Tests.{no, yes, is-true}
+use Rattle.sheet.specs.Sheet.{fits}
+use Rattle.drawing.proofs.InMetres.{metres-size, metres-within, metres-shown}
+use Rattle.drawing.proofs.metres.draw_metres.Statement.{statement}
+use Rattle.drawing.proofs.metres.draw_metres.Tie as tie
+
+fitted : (c : tie.Else1) → fits (c .before .before .before .args .shape) (length (now (c .before .before .before .args .sheet))) ≡ true
+fitted c = yes _ _ (c .before .fits2 .ensures) (c .if1 .left)
+
+fits-requires : tie.Need-fits-requires
+fits-requires c κs = search needs
+
+returns : tie.Need-returns
+returns c =
+    let a = c .before .before .before .args in
+    metres-size (a .shape) (a .ink) (a .survey) (a .figure) (now (a .sheet)) (no _ _ (c .before .fits2 .ensures) (c .if1 .taken))
+
+to-cells-requires : tie.Need-to-cells-requires
+to-cells-requires c κs = search needs
+
+enum-known-cells : tie.Need-enum-known-cells
+enum-known-cells c = search needs
+
+show-line-requires : tie.Need-show-line-requires
+show-line-requires c κs =
+    let known = c .before .before in
+    let found = known .before .before in
+    let sized = found .before in
+    let a = sized .before .before .before .args in
+    let w = metres-within (a .shape) (a .ink) (a .survey) (a .figure) (now (a .sheet)) _ _ (found .to-cells .ensures) (known .cells .given .1) in
+    (fitted sized, is-true _ (w .0), is-true _ (w .1))
+
+enum-known-cells-2 : tie.Need-enum-known-cells-2
+enum-known-cells-2 c = search needs
+
+show-circle-requires : tie.Need-show-circle-requires
+show-circle-requires c κs =
+    let known = c .before .before in
+    let found = known .before .before in
+    let sized = found .before in
+    let a = sized .before .before .before .args in
+    let w = metres-within (a .shape) (a .ink) (a .survey) (a .figure) (now (a .sheet)) _ _ (found .to-cells .ensures) (known .cells2 .given .1) in
+    (fitted sized, is-true _ (w .0))
+
+enum-known-cells-3 : tie.Need-enum-known-cells-3
+enum-known-cells-3 c = search needs
+
+show-ellipse-requires : tie.Need-show-ellipse-requires
+show-ellipse-requires c κs =
+    let known = c .before .before in
+    let found = known .before .before in
+    let sized = found .before in
+    let a = sized .before .before .before .args in
+    let w = metres-within (a .shape) (a .ink) (a .survey) (a .figure) (now (a .sheet)) _ _ (found .to-cells .ensures) (known .cells3 .given .1) in
+    (fitted sized, is-true _ (w .0))
+
+enum-known-cells-4 : tie.Need-enum-known-cells-4
+enum-known-cells-4 c = search needs
+
+same-length : tie.Need-same-length
+same-length c = search needs
+
+returns-2 : tie.Need-returns-2
+returns-2 c =
+    let called = c .before .before in
+    let known = called .before .before .before in
+    let found = known .before .before in
+    let sized = found .before in
+    let a = sized .before .before .before .args in
+    metres-shown (a .shape) (a .ink) (a .survey) (a .figure) (now (a .sheet)) _ _ (found .to-cells .ensures) (known .cells .given .1) (fitted sized)
+    _ _ (called .show-line .ensures .0) (called .show-line .ensures .1)
+
+same-length-2 : tie.Need-same-length-2
+same-length-2 c = search needs
+
+returns-3 : tie.Need-returns-3
+returns-3 c =
+    let called = c .before .before in
+    let known = called .before .before .before in
+    let found = known .before .before in
+    let sized = found .before in
+    let a = sized .before .before .before .args in
+    metres-shown (a .shape) (a .ink) (a .survey) (a .figure) (now (a .sheet)) _ _ (found .to-cells .ensures) (known .cells2 .given .1) (fitted sized)
+    _ _ (called .show-circle .ensures .0) (called .show-circle .ensures .1)
+
+same-length-3 : tie.Need-same-length-3
+same-length-3 c = search needs
+
+returns-4 : tie.Need-returns-4
+returns-4 c =
+    let called = c .before .before in
+    let known = called .before .before .before in
+    let found = known .before .before in
+    let sized = found .before in
+    let a = sized .before .before .before .args in
+    metres-shown (a .shape) (a .ink) (a .survey) (a .figure) (now (a .sheet)) _ _ (found .to-cells .ensures) (known .cells3 .given .1) (fitted sized)
+    _ _ (called .show-ellipse .ensures .0) (called .show-ellipse .ensures .1)
+
+returns-5 : tie.Need-returns-5
+returns-5 c =
+    let known = c .before in
+    let found = known .before .before in
+    let sized = found .before in
+    let a = sized .before .before .before .args in
+    metres-shown (a .shape) (a .ink) (a .survey) (a .figure) (now (a .sheet)) _ _ (found .to-cells .ensures) (known .cells4 .given .1) (fitted sized)
+    _ _ refl refl
+
+pub draw-metres-spec : {M : Type 1} → statement M
+draw-metres-spec =
+    tie.close
+    (tie.spec
+    fits-requires
+    returns
+    to-cells-requires
+    enum-known-cells
+    show-line-requires
+    enum-known-cells-2
+    show-circle-requires
+    enum-known-cells-3
+    show-ellipse-requires
+    enum-known-cells-4
+    same-length
+    returns-2
+    same-length-2
+    returns-3
+    same-length-3
+    returns-4
+    returns-5)
