@@ -1,6 +1,6 @@
 -- The answer and the sheet at each return of drawing a figure in metres.
 use Prim.Native.Nat.{ℕ}
-use mathlib.Core.Path.{_≡_, refl, sym, subst, ap, _∙_}
+use mathlib.Core.Path.{_≡_, refl, sym, subst, ap, ap₂, _∙_}
 use mathlib.Core.List.{List, [], _∷_}
 use mathlib.Core.Bool.{Bool, true, false, _&&_}
 use lib.ListN.{length}
@@ -9,12 +9,15 @@ use lib.IntN.{ℤ, pos, natAbs}
 use lib.Signed.{leZ, ltZ, nonNeg}
 use mir.Syntax.{w32}
 use mir.Val.{SFits, Fits, toZ, ofZ}
+use mir.Facts.{toZ-ofZ}
 use Rattle.laws.proofs.Ints.{ints, back, known, to-cast, is-leZ, no-leZ}
 use Rattle.sheet.specs.Sheet.{fits, inLimits, cellsOn, paint}
 use Rattle.sheet.specs.Reply.{Answer, done, refuse, unless, settled}
 use Rattle.sheet.specs.declared.Cell.{Cell}
 use Rattle.sheet.specs.declared.Shape.{Shape}
+use Rattle.sheet.specs.declared.Refusal.{Refusal}
 use Rattle.sheet.specs.declared.Refusal.the-variants.{Size, Radius}
+use Rattle.sheet.proofs.Unique.{number-not-0}
 use Rattle.line.specs.Rule.{onLine}
 use Rattle.line.specs.Draw.{lineAnswer}
 use Rattle.ring.specs.Ring.{around}
@@ -23,6 +26,7 @@ use Rattle.survey.specs.Metres.{inCells, toldInCells}
 use Rattle.survey.specs.declared.Survey.{Survey}
 use Rattle.survey.specs.declared.Metres.{Metres}
 use Rattle.survey.specs.declared.InCells.{InCells}
+use Rattle.survey.specs.declared.InCells.the-variants.{Circle, Ellipse, Refused}
 use Rattle.survey.proofs.Unique.{in-cells-one}
 use Rattle.survey.proofs.Within.{Within, in-cells-within}
 use Rattle.drawing.specs.Metres.{isRadius, areSemiAxes, cellsAnswer, onCells, metresAnswer, onMetres}
@@ -84,6 +88,14 @@ pub ring-outside : (limits : Bool) (drawn before : List ℕ) → limits ≡ fals
     → (refuse Radius ≡ unless limits Radius (done [])) × (before ≡ settled (unless limits Radius (done [])) drawn before)
 ring-outside limits drawn before e = simp e (refl, refl)
 
+-- a figure's lengths, as the machine reads them back from their bits
+pub circle-back : (i : InCells) (c : Cell) (r : ℤ) → SFits w32 r → i ≡ Circle c r → i ≡ Circle c (toZ w32 (ofZ w32 r))
+circle-back i c r f e = e ∙ ap (Circle c) (sym (toZ-ofZ f))
+
+pub ellipse-back : (i : InCells) (c : Cell) (a b : ℤ) → SFits w32 a → SFits w32 b → i ≡ Ellipse c a b
+    → i ≡ Ellipse c (toZ w32 (ofZ w32 a)) (toZ w32 (ofZ w32 b))
+ellipse-back i c a b f g e = e ∙ ap₂ (Ellipse c) (sym (toZ-ofZ f)) (sym (toZ-ofZ g))
+
 module _ (k : Shape) (ink : ℕ) (v : Survey) (f : Metres) (s : List ℕ) where
   pub metres-size : fits k (length s) ≡ false
       → (refuse Size ≡ metresAnswer k (length s) v f) × (s ≡ settled (metresAnswer k (length s) v f) (paint k ink (onMetres v f) s) s)
@@ -103,3 +115,7 @@ module _ (k : Shape) (ink : ℕ) (v : Survey) (f : Metres) (s : List ℕ) where
         → (a ≡ metresAnswer k (length s) v f) × (t ≡ settled (metresAnswer k (length s) v f) (paint k ink (onMetres v f) s) s)
     unfolding metresAnswer onMetres
     metres-shown fit a t e g = simp (fit, found) (e, g)
+
+  pub metres-refused : (i : InCells) (r : Refusal) → toldInCells i ≡ toldInCells (inCells v f) → i ≡ Refused r → fits k (length s) ≡ true
+      → (refuse r ≡ metresAnswer k (length s) v f) × (s ≡ settled (metresAnswer k (length s) v f) (paint k ink (onMetres v f) s) s)
+  metres-refused i r told is fit = metres-shown i (Refused r) told is fit (refuse r) s refl (simp (number-not-0 r))

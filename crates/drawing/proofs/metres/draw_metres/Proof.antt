@@ -1,17 +1,29 @@
 -- `drawing::metres::draw_metres` meets its contract.
-use mathlib.Core.Path.{_≡_, refl}
+use mathlib.Core.Path.{_≡_}
 use mathlib.Core.Bool.{true}
 use lib.ListN.{length}
+use mir.Syntax.{w32}
+use mir.Val.{SFits}
 use denote.Ref.{now}
 use borrow.Author.Needs.{needs}
 use Rattle.laws.proofs.Tests.{no, yes, is-true}
 use Rattle.sheet.specs.Sheet.{fits}
-use Rattle.drawing.proofs.InMetres.{metres-size, metres-within, metres-shown}
+use Rattle.drawing.proofs.InMetres.{circle-back, ellipse-back, metres-size, metres-within, metres-shown, metres-refused}
 use Rattle.drawing.proofs.metres.draw_metres.Statement.{statement}
 use Rattle.drawing.proofs.metres.draw_metres.Tie as tie
 
 fitted : (c : tie.Else1) → fits (c .before .before .before .args .shape) (length (now (c .before .before .before .args .sheet))) ≡ true
 fitted c = yes _ _ (c .before .fits2 .ensures) (c .if1 .left)
+
+-- the lengths are signed numbers of 32 bits
+radius-fits : (c : tie.After-known-told2) → SFits w32 (c .before .cells2 .given .0 .1 .0)
+radius-fits c = record { sfits = c .known-told2 .given .1 .0 .1 }
+
+first-fits : (c : tie.After-known-told3) → SFits w32 (c .before .cells3 .given .0 .1 .0)
+first-fits c = record { sfits = c .known-told3 .given .1 .0 .1 }
+
+second-fits : (c : tie.After-known-told3) → SFits w32 (c .before .cells3 .given .0 .1 .1 .0)
+second-fits c = record { sfits = c .known-told3 .given .1 .1 .0 .1 }
 
 fits-requires : tie.Need-fits-requires
 fits-requires c κs = search needs
@@ -82,11 +94,12 @@ same-length-2 c = search needs
 returns-3 : tie.Need-returns-3
 returns-3 c =
     let called = c .before .before in
-    let known = called .before .before .before in
+    let told = called .before .before in
+    let known = told .before in
     let found = known .before .before in
     let sized = found .before in
     let a = sized .before .before .before .args in
-    metres-shown (a .shape) (a .ink) (a .survey) (a .figure) (now (a .sheet)) _ _ (found .to-cells .ensures) (known .cells2 .given .1) (fitted sized)
+    metres-shown (a .shape) (a .ink) (a .survey) (a .figure) (now (a .sheet)) _ _ (found .to-cells .ensures) (circle-back _ (known .cells2 .given .0 .0) (known .cells2 .given .0 .1 .0) (radius-fits told) (known .cells2 .given .1)) (fitted sized)
     _ _ (called .show-circle .ensures .0) (called .show-circle .ensures .1)
 
 same-length-3 : tie.Need-same-length-3
@@ -95,11 +108,12 @@ same-length-3 c = search needs
 returns-4 : tie.Need-returns-4
 returns-4 c =
     let called = c .before .before in
-    let known = called .before .before .before in
+    let told = called .before .before in
+    let known = told .before in
     let found = known .before .before in
     let sized = found .before in
     let a = sized .before .before .before .args in
-    metres-shown (a .shape) (a .ink) (a .survey) (a .figure) (now (a .sheet)) _ _ (found .to-cells .ensures) (known .cells3 .given .1) (fitted sized)
+    metres-shown (a .shape) (a .ink) (a .survey) (a .figure) (now (a .sheet)) _ _ (found .to-cells .ensures) (ellipse-back _ (known .cells3 .given .0 .0) (known .cells3 .given .0 .1 .0) (known .cells3 .given .0 .1 .1 .0) (first-fits told) (second-fits told) (known .cells3 .given .1)) (fitted sized)
     _ _ (called .show-ellipse .ensures .0) (called .show-ellipse .ensures .1)
 
 returns-5 : tie.Need-returns-5
@@ -108,8 +122,7 @@ returns-5 c =
     let found = known .before .before in
     let sized = found .before in
     let a = sized .before .before .before .args in
-    metres-shown (a .shape) (a .ink) (a .survey) (a .figure) (now (a .sheet)) _ _ (found .to-cells .ensures) (known .cells4 .given .1) (fitted sized)
-    _ _ refl refl
+    metres-refused (a .shape) (a .ink) (a .survey) (a .figure) (now (a .sheet)) _ (known .cells4 .given .0 .0) (found .to-cells .ensures) (known .cells4 .given .1) (fitted sized)
 
 pub draw-metres-spec : {M : Type 1} → statement M
 draw-metres-spec =

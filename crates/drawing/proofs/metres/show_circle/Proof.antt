@@ -37,10 +37,10 @@ returns-2 c =
     let f = start .fits .r in
     let n = not-below (a .r) f (tested .if1 .left) in
     let l =
-        ring-shown (a .shape) (a .ink) (now (a .sheet)) (start .pre .0) (a .centre) (start .pre .1) _ _ _ _ _
-        (ap (λ (z : ℤ). radius (natAbs z)) (toZ-ofZ f) ∙ radius-as (a .r) n)
-        (ap (λ (z : ℤ). circleRule (natAbs z)) (toZ-ofZ f))
-        (called .draw-circle .ensures .1) in
+    ring-shown (a .shape) (a .ink) (now (a .sheet)) (start .pre .0) (a .centre) (start .pre .1) _ _ _ _ _
+    (ap (λ (z : ℤ). radius (natAbs z)) (toZ-ofZ f) ∙ radius-as (a .r) n)
+    (ap (λ (z : ℤ). circleRule (natAbs z)) (toZ-ofZ f))
+    (called .draw-circle .ensures .1) in
     (c .of-ring .ensures ∙ called .draw-circle .ensures .0 ∙ l .0, l .1)
 
 pub show-circle-spec : {M : Type 1} → statement M

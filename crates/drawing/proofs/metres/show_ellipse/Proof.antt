@@ -55,10 +55,10 @@ returns-3 c =
     let m = not-below (a .a) f (first .if1 .left) in
     let n = not-below (a .b) g (both .if2 .left) in
     let l =
-        ring-shown (a .shape) (a .ink) (now (a .sheet)) (start .pre .0) (a .centre) (start .pre .1) _ _ _ _ _
-        (ap₂ (λ (y z : ℤ). semiAxes (natAbs y) (natAbs z)) (toZ-ofZ f) (toZ-ofZ g) ∙ axes-as (a .a) (a .b) m n)
-        (ap₂ (λ (y z : ℤ). ellipseRule (natAbs y) (natAbs z)) (toZ-ofZ f) (toZ-ofZ g))
-        (called .draw-ellipse .ensures .1) in
+    ring-shown (a .shape) (a .ink) (now (a .sheet)) (start .pre .0) (a .centre) (start .pre .1) _ _ _ _ _
+    (ap₂ (λ (y z : ℤ). semiAxes (natAbs y) (natAbs z)) (toZ-ofZ f) (toZ-ofZ g) ∙ axes-as (a .a) (a .b) m n)
+    (ap₂ (λ (y z : ℤ). ellipseRule (natAbs y) (natAbs z)) (toZ-ofZ f) (toZ-ofZ g))
+    (called .draw-ellipse .ensures .1) in
     (c .of-ring .ensures ∙ called .draw-ellipse .ensures .0 ∙ l .0, l .1)
 
 pub show-ellipse-spec : {M : Type 1} → statement M
