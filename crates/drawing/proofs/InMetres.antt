@@ -2,7 +2,7 @@
 use Prim.Native.Nat.{ℕ}
 use mathlib.Core.Path.{_≡_, refl, sym, subst, ap, ap₂, _∙_}
 use mathlib.Core.List.{List, [], _∷_}
-use mathlib.Core.Bool.{Bool, true, false, _&&_}
+use mathlib.Core.Bool.{Bool, true, false}
 use lib.ListN.{length}
 use lib.Dec.{T}
 use lib.IntN.{ℤ, pos, natAbs}
@@ -65,23 +65,24 @@ unfolding areSemiAxes
 axes-as a b e f = simp (e, f)
 
 module _ (k : Shape) (ink : ℕ) (s : List ℕ) (fit : fits k (length s) ≡ true) where
-  -- a line with ends within the limits
-  pub line-shown : (a b : Cell) → inLimits a ≡ true → inLimits b ≡ true → (t : List ℕ)
-      → t ≡ settled (lineAnswer k (length s) a b) (paint k ink (onLine a b) s) s
-      → (lineAnswer k (length s) a b ≡ done (pos (cellsOn k (onLine a b)) ∷ [])) × (t ≡ paint k ink (onLine a b) s)
+  -- a line with ends within the limits, by the reply of its drawing and what tells it
+  pub line-shown : (a b : Cell) → inLimits a ≡ true → inLimits b ≡ true → (r q : Answer) (t : List ℕ) → r ≡ q
+      → q ≡ lineAnswer k (length s) a b → t ≡ settled (lineAnswer k (length s) a b) (paint k ink (onLine a b) s) s
+      → (r ≡ done (pos (cellsOn k (onLine a b)) ∷ [])) × (t ≡ paint k ink (onLine a b) s)
   unfolding lineAnswer
-  line-shown a b i j t e = (simp (fit, i, j), simp (fit, i, j) at e)
+  line-shown a b i j r q t e f g = (e ∙ (simp (fit, i, j) at f), simp (fit, i, j) at g)
 
-  -- a ring with its centre within the limits
+  -- a ring with its centre within the limits: its limits and its rule are what the lengths are cast to
   module _ (c : Cell) (inside : inLimits c ≡ true) where
     ring-in : (limits : Bool) → ringAnswer k (length s) c limits ≡ unless limits Radius (done [])
     unfolding ringAnswer
     ring-in limits = simp (fit, inside)
 
-    pub ring-shown : (m n : Bool) (p q : ℕ → ℕ → Bool) (t : List ℕ) → m ≡ n → p ≡ q
-        → t ≡ settled (ringAnswer k (length s) c m) (paint k ink (around c p) s) s
-        → (ringAnswer k (length s) c m ≡ unless n Radius (done [])) × (t ≡ settled (unless n Radius (done [])) (paint k ink (around c q) s) s)
-    ring-shown m n p q t e f g = rw (← e, ← f) (ring-in m, g ∙ ap (λ (a : Answer). settled a (paint k ink (around c p) s) s) (ring-in m))
+    pub ring-shown : (m n : Bool) (u v : ℕ → ℕ → Bool) → m ≡ n → u ≡ v → (r q : Answer) (t : List ℕ) → r ≡ q
+        → q ≡ ringAnswer k (length s) c m → t ≡ settled (ringAnswer k (length s) c m) (paint k ink (around c u) s) s
+        → (r ≡ unless n Radius (done [])) × (t ≡ settled (unless n Radius (done [])) (paint k ink (around c v) s) s)
+    ring-shown m n u v l h r q t e f g =
+        rw (← l, ← h) (e ∙ f ∙ ring-in m, g ∙ ap (λ (a : Answer). settled a (paint k ink (around c u) s) s) (ring-in m))
 
 -- a ring of a length outside its limits
 pub ring-outside : (limits : Bool) (drawn before : List ℕ) → limits ≡ false
@@ -96,26 +97,29 @@ pub ellipse-back : (i : InCells) (c : Cell) (a b : ℤ) → SFits w32 a → SFit
     → i ≡ Ellipse c (toZ w32 (ofZ w32 a)) (toZ w32 (ofZ w32 b))
 ellipse-back i c a b f g e = e ∙ ap₂ (Ellipse c) (sym (toZ-ofZ f)) (sym (toZ-ofZ g))
 
+-- the figure in cells that was told is the one of the rule, and within the limits
+module _ (v : Survey) (f : Metres) (i q : InCells) (told : toldInCells i ≡ toldInCells (inCells v f)) (is : i ≡ q) where
+  found : inCells v f ≡ q
+  found = sym (in-cells-one i (inCells v f) told) ∙ is
+
+  pub metres-within : Within q
+  metres-within = subst Within found (in-cells-within v f)
+
+-- the returns of `draw_metres`
 module _ (k : Shape) (ink : ℕ) (v : Survey) (f : Metres) (s : List ℕ) where
   pub metres-size : fits k (length s) ≡ false
       → (refuse Size ≡ metresAnswer k (length s) v f) × (s ≡ settled (metresAnswer k (length s) v f) (paint k ink (onMetres v f) s) s)
   unfolding metresAnswer
   metres-size e = simp e (refl, refl)
 
-  -- the figure q in cells that was told
-  module _ (r q : InCells) (told : toldInCells r ≡ toldInCells (inCells v f)) (is : r ≡ q) where
-    found : inCells v f ≡ q
-    found = sym (in-cells-one r (inCells v f) told) ∙ is
-
-    pub metres-within : Within q
-    metres-within = subst Within found (in-cells-within v f)
-
-    pub metres-shown : fits k (length s) ≡ true → (a : Answer) (t : List ℕ) → a ≡ cellsAnswer k q
+  -- the figure in cells is drawn, or refused
+  module _ (fit : fits k (length s) ≡ true) (i : InCells) (told : toldInCells i ≡ toldInCells (inCells v f)) where
+    pub metres-shown : (q : InCells) → i ≡ q → (a : Answer) (t : List ℕ) → a ≡ cellsAnswer k q
         → t ≡ settled (cellsAnswer k q) (paint k ink (onCells q) s) s
         → (a ≡ metresAnswer k (length s) v f) × (t ≡ settled (metresAnswer k (length s) v f) (paint k ink (onMetres v f) s) s)
     unfolding metresAnswer onMetres
-    metres-shown fit a t e g = simp (fit, found) (e, g)
+    metres-shown q is a t e g = simp (fit, found v f i q told is) (e, g)
 
-  pub metres-refused : (i : InCells) (r : Refusal) → toldInCells i ≡ toldInCells (inCells v f) → i ≡ Refused r → fits k (length s) ≡ true
-      → (refuse r ≡ metresAnswer k (length s) v f) × (s ≡ settled (metresAnswer k (length s) v f) (paint k ink (onMetres v f) s) s)
-  metres-refused i r told is fit = metres-shown i (Refused r) told is fit (refuse r) s refl (simp (number-not-0 r))
+    pub metres-refused : (r : Refusal) → i ≡ Refused r
+        → (refuse r ≡ metresAnswer k (length s) v f) × (s ≡ settled (metresAnswer k (length s) v f) (paint k ink (onMetres v f) s) s)
+    metres-refused r is = metres-shown (Refused r) is (refuse r) s refl (simp (number-not-0 r))

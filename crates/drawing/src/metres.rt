@@ -19,8 +19,8 @@ use survey::InCells;
 use survey::Metres;
 use survey::Survey;
 
-// The reply of a line, and that of a ring, as the reply of any figure.
-fn of_line(reply: Counted) -> Shown
+// The reply of a drawing that counts its cells, as that of any kind.
+fn shown_cells(reply: Counted) -> Shown
     ensures { λ r. ⌜ toldShown r ≡ toldCounted reply ⌝ }
 {
     match reply {
@@ -29,7 +29,8 @@ fn of_line(reply: Counted) -> Shown
     }
 }
 
-fn of_ring(reply: Drawn) -> Shown
+// And that of one that does not.
+fn shown(reply: Drawn) -> Shown
     ensures { λ r. ⌜ toldShown r ≡ toldDrawn reply ⌝ }
 {
     match reply {
@@ -44,7 +45,7 @@ fn show_line(sheet: &mut [u8], shape: Shape, ink: u8, from: Cell, to: Cell) -> S
     ensures { λ d. ⌜ toldShown d ≡ cellsAnswer shape (cells.Line from to) ⌝ }
     ensures { λ d. ⌜ now (sheet .exit) ≡ settled (cellsAnswer shape (cells.Line from to)) (paint shape ink (onCells (cells.Line from to)) (now (sheet .entry))) (now (sheet .entry)) ⌝ }
 {
-    of_line(line::draw_line(sheet, shape, ink, from, to))
+    shown_cells(line::draw_line(sheet, shape, ink, from, to))
 }
 
 // Draws the circle about a centre within the limits, of a radius that may be below 0.
@@ -56,7 +57,7 @@ fn show_circle(sheet: &mut [u8], shape: Shape, ink: u8, centre: Cell, r: i32) ->
     if r < 0 {
         return Shown::Refused(Refusal::Radius);
     }
-    of_ring(ring::draw_circle(sheet, shape, ink, centre, r as u32))
+    shown(ring::draw_circle(sheet, shape, ink, centre, r as u32))
 }
 
 // Draws the ellipse about a centre within the limits, of semi-axes that may be below 0.
@@ -71,7 +72,7 @@ fn show_ellipse(sheet: &mut [u8], shape: Shape, ink: u8, centre: Cell, a: i32, b
     if b < 0 {
         return Shown::Refused(Refusal::Radius);
     }
-    of_ring(ring::draw_ellipse(sheet, shape, ink, centre, a as u32, b as u32))
+    shown(ring::draw_ellipse(sheet, shape, ink, centre, a as u32, b as u32))
 }
 
 // Draws the figure: first the sheet is tested, then the survey, then each field.

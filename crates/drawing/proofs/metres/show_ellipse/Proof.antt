@@ -37,8 +37,8 @@ cast-draw-ellipse-2 c =
 draw-ellipse-requires : tie.Need-draw-ellipse-requires
 draw-ellipse-requires c κs = search needs
 
-of-ring-requires : tie.Need-of-ring-requires
-of-ring-requires c κs = search needs
+shown-requires : tie.Need-shown-requires
+shown-requires c κs = search needs
 
 same-length : tie.Need-same-length
 same-length c = search needs
@@ -52,14 +52,10 @@ returns-3 c =
     let a = start .args in
     let f = start .fits .a in
     let g = start .fits .b in
-    let m = not-below (a .a) f (first .if1 .left) in
-    let n = not-below (a .b) g (both .if2 .left) in
-    let l =
-    ring-shown (a .shape) (a .ink) (now (a .sheet)) (start .pre .0) (a .centre) (start .pre .1) _ _ _ _ _
-    (ap₂ (λ (y z : ℤ). semiAxes (natAbs y) (natAbs z)) (toZ-ofZ f) (toZ-ofZ g) ∙ axes-as (a .a) (a .b) m n)
+    ring-shown (a .shape) (a .ink) (now (a .sheet)) (start .pre .0) (a .centre) (start .pre .1) _ _ _ _
+    (ap₂ (λ (y z : ℤ). semiAxes (natAbs y) (natAbs z)) (toZ-ofZ f) (toZ-ofZ g) ∙ axes-as (a .a) (a .b) (not-below (a .a) f (first .if1 .left)) (not-below (a .b) g (both .if2 .left)))
     (ap₂ (λ (y z : ℤ). ellipseRule (natAbs y) (natAbs z)) (toZ-ofZ f) (toZ-ofZ g))
-    (called .draw-ellipse .ensures .1) in
-    (c .of-ring .ensures ∙ called .draw-ellipse .ensures .0 ∙ l .0, l .1)
+    _ _ _ (c .shown .ensures) (called .draw-ellipse .ensures .0) (called .draw-ellipse .ensures .1)
 
 pub show-ellipse-spec : {M : Type 1} → statement M
 show-ellipse-spec =
@@ -70,6 +66,6 @@ show-ellipse-spec =
     cast-draw-ellipse
     cast-draw-ellipse-2
     draw-ellipse-requires
-    of-ring-requires
+    shown-requires
     same-length
     returns-3)
