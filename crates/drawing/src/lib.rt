@@ -1,4 +1,7 @@
 // Any figure, in cells or in metres, and a whole file, onto a sheet.
+mod metres;
+
+pub use metres::draw_metres;
 use sheet::Refusal;
 
 // The reply of drawing a figure of any kind: a line tells its number of cells on the sheet.
