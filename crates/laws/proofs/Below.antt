@@ -8,7 +8,7 @@ use native.Mathlib.Numerals.{add-one}
 use borrow.Author.Tests.{eqb-true, eqb-false, ne-eqb}
 use lib.Dec.{T, eqb}
 use Rattle.laws.specs.Below.{any, count, all}
-use Rattle.laws.proofs.Tests.{and-l, and-r, or-l, or-r, or-e, is-false}
+use Rattle.laws.proofs.Tests.{and-l, and-r, or-l, or-r, or-e}
 
 -- one number more
 pub any-more : (n : ℕ) (test : ℕ → Bool) → any (n + 1) test ≡ (any n test || test n)
@@ -52,9 +52,6 @@ any→ (suc n) test t =
     (or-e (any n test) (test n) t)
 
 -- none passes
-pub any-none : (n : ℕ) (test : ℕ → Bool) → ((i : ℕ) → i < n → test i ≡ false) → any n test ≡ false
-any-none n test h = is-false (any n test) (λ t. let f = any→ n test t in subst T (h (f .at) (f .below)) (f .passes))
-
 pub count-none : (n : ℕ) (test : ℕ → Bool) → ((i : ℕ) → i < n → test i ≡ false) → count n test ≡ 0
 unfolding count
 count-none zero test h = refl

@@ -103,12 +103,6 @@ is-leZ a b h = is-true (leZ a b) (to-leZ a b h)
 pub no-leZ : (a b : ℤ) → up b + dn a < up a + dn b → leZ a b ≡ false
 no-leZ a b h = is-false (leZ a b) (λ t. omega (arith, le-parts a b t))
 
-pub is-ltZ : (a b : ℤ) → up a + dn b < up b + dn a → ltZ a b ≡ true
-is-ltZ a b h = is-true (ltZ a b) (to-ltZ a b h)
-
-pub no-ltZ : (a b : ℤ) → up b + dn a ≤ up a + dn b → ltZ a b ≡ false
-no-ltZ a b h = is-false (ltZ a b) (λ t. omega (arith, lt-parts a b t))
-
 -- a test of equality, both ways
 pub eqZ→≡ : (a b : ℤ) → T (eqZ a b) → a ≡ b
 eqZ→≡ (pos a) (pos b) t = ap pos (eqb→eq a b t)

@@ -13,9 +13,6 @@ lt-or-ge a b = elim (decLt a b) [ yes h ↦ inl h | no f ↦ inr (omega arith) ]
 pub sq-le : {a b : ℕ} → a ≤ b → a * a ≤ b * b
 sq-le h = mul-le-mul h h
 
-pub sq-lt : {a b : ℕ} → a < b → a * a < b * b
-sq-lt {a} {b} h = let k = mul-le-mul h h in omega arith
-
 -- and the larger square is that of the larger number
 pub sq-lt-back : (a b : ℕ) → a * a < b * b → a < b
 sq-lt-back a b h = elim (lt-or-ge a b) [ inl g ↦ g | inr g ↦ absurd (let k = sq-le g in omega arith) ]
