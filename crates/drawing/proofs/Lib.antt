@@ -1,2 +1,4 @@
 pub mod Unique
 mod Figures
+pub mod Contents
+mod Records

@@ -1,2 +1,3 @@
 pub mod Shown
 pub mod Figure
+pub mod File
