@@ -1,12 +1,13 @@
 -- A file read for drawing, record by record: the laws that a loop over it needs.
 use Prim.Native.Nat.{ℕ, zero, suc, _-_, _≤_, _<_}
-use mathlib.Core.Path.{_≡_, refl, sym, subst, ap, _∙_}
+use mathlib.Core.Path.{_≡_, refl, sym, ap, _∙_}
 use mathlib.Core.List.{List, _∷_}
 use mathlib.Core.Logic.{_⊎_, inl, inr}
 use mathlib.Core.Bool.{Bool, true, false, cond}
 use native.Mathlib.Omega.{arith}
 use denote.Enum.Declared.{tagOf, declared}
 use lib.ListN.{length}
+use Rattle.sheet.specs.declared.Refusal.{Refusal}
 use Rattle.sheet.specs.declared.Refusal.the-variants.{Coordinate}
 use Rattle.record.specs.Reading.{readAt}
 use Rattle.record.specs.File.{Contents, holds, refuses, also, onward}
@@ -25,6 +26,13 @@ pub never : (r : Record) → NoRecord (read.Record r) → ⊥
 never r (inl t) = let z : _≡_ {A = ℕ} 0 1 = t in omega arith
 never r (inr t) = let z : _≡_ {A = ℕ} 0 2 = t in omega arith
 
+-- an end and a record are no refusal
+pub end-refused : (q : Refusal) (at : ℕ) → read.End ≡ read.Refused q at → ⊥
+end-refused q at e = let z : _≡_ {A = ℕ} 1 2 = ap (tagOf (declared enum)) e in omega arith
+
+record-refused : (r : Record) (q : Refusal) (at : ℕ) → read.Record r ≡ read.Refused q at → ⊥
+record-refused r q at e = let z : _≡_ {A = ℕ} 0 2 = ap (tagOf (declared enum)) e in omega arith
+
 -- joining makes no record of what is none, and no other record of one
 pub none-joins : (q : Read) → NoRecord q → q ≡ joined q
 none-joins (read.Record r) n = absurd (never r n)
@@ -42,7 +50,7 @@ joined-record (read.Record p) r e = by (joins (p .figure)) e
   where
     by : (t : Bool) → read.Record r ≡ cond t (read.Record p) (read.Refused Coordinate (p .offset)) → read.Record r ≡ read.Record p
     by true e = e
-    by false e = absurd (let z : _≡_ {A = ℕ} 0 1 = cc in omega arith)
+    by false e = absurd (record-refused r Coordinate (p .offset) e)
 joined-record read.End r e = e
 joined-record (read.Refused q at) r e = e
 
@@ -65,11 +73,14 @@ enough s (suc m) (suc n) at h g =
     onward-as (contentsIn m s) (contentsIn n s) (readAt s at) (λ r e. let p = stands s at r e in enough s m n (r .next) (omega arith) (omega arith))
 
 -- the file from an offset on is what is read there and the file from the next offset on
-pub contents-on : (s : List ℕ) (at : ℕ) → contentsFrom s at ≡ onward (contentsFrom s) (joined (readAt s at))
+contents-on : (s : List ℕ) (at : ℕ) → contentsFrom s at ≡ onward (contentsFrom s) (joined (readAt s at))
 unfolding contentsFrom contentsIn
 contents-on s at =
     onward-as (contentsIn (length s - at) s) (contentsFrom s) (readAt s at)
     (λ r e. let p = stands s at r e in enough s (length s - at) (suc (length s - r .next)) (r .next) (omega arith) (omega arith))
+
+pub contents-read : (s : List ℕ) (at : ℕ) (q : Read) → q ≡ readAt s at → contentsFrom s at ≡ onward (contentsFrom s) (joined q)
+contents-read s at q e = contents-on s at ∙ ap (λ (q : Read). onward (contentsFrom s) (joined q)) (sym e)
 
 -- a record before the rest changes neither how that closes nor, where nothing is refused, its records
 closing-also : (r : Record) (k : Contents) → closing (also r k) ≡ closing k
@@ -78,10 +89,10 @@ closing-also r (refuses q at) = refl
 
 records-also : (r : Record) (k : Contents) → read.End ≡ closing k → recordsOf (also r k) ≡ r ∷ recordsOf k
 records-also r (holds rs) e = refl
-records-also r (refuses q at) e = absurd (let z : _≡_ {A = ℕ} 0 1 = cc in omega arith)
+records-also r (refuses q at) e = absurd (end-refused q at e)
 
 -- a read that is no record closes the file
-pub closing-read : (f : ℕ → Contents) (q : Read) → NoRecord q → q ≡ closing (onward f q)
+closing-read : (f : ℕ → Contents) (q : Read) → NoRecord q → q ≡ closing (onward f q)
 closing-read f (read.Record r) n = absurd (never r n)
 closing-read f read.End n = refl
 closing-read f (read.Refused q at) n = refl
@@ -123,10 +134,10 @@ next-record s at r e f = by (joins (r .figure)) refl (e ∙ ap closing here)
     chosen t = onward (contentsFrom s) (cond t (read.Record r) (read.Refused Coordinate (r .offset)))
 
     here : contentsFrom s at ≡ chosen (joins (r .figure))
-    here = contents-on s at ∙ ap (λ (q : Read). onward (contentsFrom s) (joined q)) (sym f)
+    here = contents-read s at (read.Record r) f
 
     by : (t : Bool) → joins (r .figure) ≡ t → read.End ≡ closing (chosen t) → Next s at r
-    by false p g = absurd (let z : _≡_ {A = ℕ} 0 1 = cc in omega arith)
+    by false p g = absurd (end-refused Coordinate (r .offset) g)
     by true p g =
         let sound = g ∙ closing-also r rest in
         record { joining = p; sound = sound; first = ap recordsOf (here ∙ ap chosen p) ∙ records-also r rest sound }

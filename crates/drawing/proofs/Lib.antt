@@ -1,4 +1,5 @@
 pub mod Unique
+pub mod Examples
 mod Figures
-pub mod Contents
+mod Contents
 mod Records

@@ -15,16 +15,16 @@ use Rattle.sheet.specs.declared.Refusal.the-variants.{Size}
 use Rattle.sheet.proofs.Paint.{paint-length}
 use Rattle.sheet.proofs.Unique.{number-not-0}
 use Rattle.record.specs.Reading.{readAt, refuseAt}
-use Rattle.record.specs.File.{Contents, holds, refuses, onward, contentsAnswer, toldChecked, closedBy}
+use Rattle.record.specs.File.{Contents, holds, refuses, contentsAnswer, toldChecked, closedBy}
 use Rattle.record.specs.declared.types.Record.{Record}
 use Rattle.record.specs.declared.types.Read.{Read}
 use Rattle.record.specs.declared.types.Read.the-variants as read
 use Rattle.record.proofs.types.Read.{enum}
 use Rattle.record.proofs.Stands.{stands}
 use Rattle.drawing.specs.Figure.{onFigure}
-use Rattle.drawing.specs.File.{joined, contentsFrom, contents, recordsOf, closing, paintAll, drawFileAnswer}
+use Rattle.drawing.specs.File.{contentsFrom, contents, recordsOf, closing, paintAll, drawFileAnswer}
 use Rattle.drawing.proofs.Figures.{after, figure-drawn}
-use Rattle.drawing.proofs.Contents.{NoRecord, never, contents-on, next-record}
+use Rattle.drawing.proofs.Contents.{NoRecord, never, end-refused, contents-read, next-record}
 
 -- what is left to draw makes the file's picture of the sheet, and with what was counted its number of records
 pub record Drawing (k : Shape) (s sheet₀ sheet : List ℕ) (count at : ℕ) : Type 0 where
@@ -42,7 +42,7 @@ begins k s sheet e = record { sound = e; counted = omega arith; painted = refl; 
 -- a file in which none is refused is done with its number of records
 done-holds : (k : Contents) → read.End ≡ closing k → done (pos (length (recordsOf k)) ∷ []) ≡ contentsAnswer k
 done-holds (holds rs) e = refl
-done-holds (refuses q at) e = absurd (let z : _≡_ {A = ℕ} 0 1 = cc in omega arith)
+done-holds (refuses q at) e = absurd (end-refused q at e)
 
 -- the first record, and none
 paint-first : (k : Shape) (r : Record) (rs : List Record) (s : List ℕ) → paintAll k (r ∷ rs) s ≡ paintAll k rs (paint k (r .ink) (onFigure (r .figure)) s)
@@ -75,23 +75,18 @@ module _ (k : Shape) (s sheet₀ sheet : List ℕ) (count at : ℕ) (h : Drawing
         inside = p .inside;
       }
 
-  -- what is left where a read is no record
-  here : (q : Read) → q ≡ readAt s at → contentsFrom s at ≡ onward (contentsFrom s) (joined q)
-  here q e = contents-on s at ∙ ap (λ (q : Read). onward (contentsFrom s) (joined q)) (sym e)
-
   -- where the reading ends all is drawn
   pub closes : read.End ≡ closing (contents s) → (q : Read) → q ≡ readAt s at → NoRecord q
       → (toldChecked (closedBy q count) ≡ contentsAnswer (contents s)) × (sheet ≡ paintAll k (recordsOf (contents s)) sheet₀)
   closes whole (read.Record r) e n = absurd (never r n)
   closes whole read.End e n =
-      let none = ap recordsOf (here read.End e) in
+      let none = ap recordsOf (contents-read s at read.End e) in
       let all : count ≡ length (recordsOf (contents s)) = omega (arith, h .counted, ap length none) in (
         ap (λ (m : ℕ). done (pos m ∷ [])) all ∙ done-holds (contents s) whole,
         sym (ap (λ (rs : List Record). paintAll k rs sheet) none ∙ paint-no k sheet) ∙ h .painted,
       )
   closes whole (read.Refused q o) e n =
-      let f : read.End ≡ read.Refused q o = h .sound ∙ ap closing (here (read.Refused q o) e) in
-      absurd (let z : _≡_ {A = ℕ} 0 1 = cc in omega arith)
+      absurd (end-refused q o (h .sound ∙ ap closing (contents-read s at (read.Refused q o) e)))
 
 -- a read that is not the end
 abbrev pub NotEnd : Read → Type 0
@@ -110,7 +105,7 @@ refusing (refuses r at) q drawn before e n = (ap (λ (q : Read). toldChecked (cl
 -- records that none refuses are drawn
 drawing : (c : Contents) (drawn before : List ℕ) → read.End ≡ closing c → drawn ≡ settled (contentsAnswer c) drawn before
 drawing (holds rs) drawn before e = refl
-drawing (refuses q at) drawn before e = absurd (let z : _≡_ {A = ℕ} 0 1 = cc in omega arith)
+drawing (refuses q at) drawn before e = absurd (end-refused q at e)
 
 module _ (k : Shape) (s sheet : List ℕ) where
   -- what a reply tells and leaves

@@ -65,7 +65,7 @@ abbrev pub toldFiled : Filed → Answer
 toldFiled (filed.Done n) = done (pos n ∷ [])
 toldFiled (filed.Refused q at) = refuseAt q at
 
--- the read that closes the reading: the end, or the refusal
+-- the read that closes the reading, the end or the refusal: for inner contracts
 abbrev pub closing : Contents → Read
 closing (holds rs) = read.End
 closing (refuses q at) = read.Refused q at

@@ -4,7 +4,6 @@ ghost use mathlib.Core.Bool.{true};
 ghost use lib.ListN.{length};
 ghost use Rattle.sheet.specs.Sheet.{fits};
 ghost use Rattle.sheet.specs.Reply.{settled};
-ghost use Rattle.record.specs.Reading.{readAt};
 ghost use Rattle.record.specs.File.{contentsAnswer, closedBy, toldChecked};
 ghost use Rattle.record.specs.declared.types.Read.the-variants.{End};
 ghost use Rattle.drawing.specs.File.{joins, joined, contents, recordsOf, paintAll, drawFileAnswer, toldFiled, closing};

@@ -5,30 +5,22 @@ use Rattle.record.specs.declared.types.Read.{Read}
 use borrow.Author.Needs.{needs}
 use Rattle.drawing.proofs.file.closed.Statement.{statement}
 use Rattle.drawing.proofs.file.closed.Tie as tie
-use Rattle.drawing.proofs.file.closed.Reads as reads
-use Rattle.drawing.proofs.file.closed.Lts as lts
 
--- src/file.rt:63:28
 enum-told : tie.Need-enum-told
 enum-told c = search needs
 
--- src/file.rt:64:22
 enum-told-2 : tie.Need-enum-told-2
 enum-told-2 c = search needs
 
--- src/file.rt:65:23
 enum-known-answer : tie.Need-enum-known-answer
 enum-known-answer c = search needs
 
--- src/file.rt:59:1
 returns : tie.Need-returns
 returns c = ap (λ (q : Read). toldChecked (closedBy q (c .before .before .args .count))) (sym (c .enum-told .given .1))
 
--- src/file.rt:59:1
 returns-2 : tie.Need-returns-2
 returns-2 c = ap (λ (q : Read). toldChecked (closedBy q (c .before .before .args .count))) (sym (c .enum-told2 .given .1))
 
--- src/file.rt:59:1
 returns-3 : tie.Need-returns-3
 returns-3 c = ap (λ (q : Read). toldChecked (closedBy q (c .before .before .before .args .count))) (sym (c .before .answer .given .1))
 

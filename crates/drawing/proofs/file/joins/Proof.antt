@@ -4,43 +4,31 @@ use Rattle.drawing.specs.File.{joins}
 use borrow.Author.Needs.{needs}
 use Rattle.drawing.proofs.file.joins.Statement.{statement}
 use Rattle.drawing.proofs.file.joins.Tie as tie
-use Rattle.drawing.proofs.file.joins.Reads as reads
-use Rattle.drawing.proofs.file.joins.Lts as lts
-use Rattle.curve.proofs.points_in_limits.Reads as points-in-limits-reads
 
--- src/file.rt:23:31
 enum-told : tie.Need-enum-told
 enum-told c = search needs
 
--- src/file.rt:24:33
 enum-told-2 : tie.Need-enum-told-2
 enum-told-2 c = search needs
 
--- src/file.rt:25:37
 enum-told-3 : tie.Need-enum-told-3
 enum-told-3 c = search needs
 
--- src/file.rt:26:23
 enum-known-figure : tie.Need-enum-known-figure
 enum-known-figure c = search needs
 
--- src/file.rt:26:41
 points-in-limits-requires : tie.Need-points-in-limits-requires
 points-in-limits-requires c κs = search needs
 
--- src/file.rt:19:1
 returns : tie.Need-returns
 returns c = search needs
 
--- src/file.rt:19:1
 returns-2 : tie.Need-returns-2
 returns-2 c = search needs
 
--- src/file.rt:19:1
 returns-3 : tie.Need-returns-3
 returns-3 c = search needs
 
--- src/file.rt:19:1
 returns-4 : tie.Need-returns-4
 returns-4 c = c .points-in-limits .ensures ∙ ap joins (sym (c .before .before .figure .given .1))
 
