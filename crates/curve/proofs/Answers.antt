@@ -71,6 +71,24 @@ module _ (a b c : Cell) (l : allInLimits (a ∷ b ∷ c ∷ []) ≡ true) where
       all-as (2 ^ s + 1) _ _ (λ i h. ap inLimits (point-is s i (omega arith)))
       ∙ sym (ap (λ (t : Bool). cond t (all (2 ^ s + 1) (λ (i : ℕ). inLimits (pointAt (a ∷ b ∷ c ∷ []) (2 ^ s) i))) true) (le-leb s 6 m))
 
+-- the test of all points, at each return of `points_in_limits`
+module _ (a b c : Cell) (s : ℕ) where
+  abbrev Tested : Bool → Type 0
+  Tested r = r ≡ (allInLimits (a ∷ b ∷ c ∷ []) && joinedInLimits (a ∷ b ∷ c ∷ []) s)
+
+  none-joined : 6 < s → joinedInLimits (a ∷ b ∷ c ∷ []) s ≡ true
+  unfolding joinedInLimits
+  none-joined l = simp (lt-leb s 6 l)
+
+  pub control-out : allInLimits (a ∷ b ∷ c ∷ []) ≡ false → Tested false
+  control-out e = simp e
+
+  pub no-points : allInLimits (a ∷ b ∷ c ∷ []) ≡ true → 6 < s → Tested true
+  no-points e l = simp (e, none-joined l)
+
+  pub points-tested : allInLimits (a ∷ b ∷ c ∷ []) ≡ true → s ≤ 6 → (r : Bool) → r ≡ all (2 ^ s + 1) (isIn (controlsOf a b c) s) → Tested r
+  points-tested e m r f = simp e (f ∙ joined-are a b c e s m)
+
 module _ (k : Shape) (ink : ℕ) (a b c : Cell) (s : ℕ) (sheet : List ℕ) where
   abbrev Left : List ℕ → Type 0
   Left t = t ≡ settled (curveAnswer k (length sheet) (a ∷ b ∷ c ∷ []) s) (paint k ink (onCurve (a ∷ b ∷ c ∷ []) s) sheet) sheet
@@ -83,13 +101,9 @@ module _ (k : Shape) (ink : ℕ) (a b c : Cell) (s : ℕ) (sheet : List ℕ) whe
   unfolding curveAnswer
   curve-control e f = simp (e, f) (refl, refl)
 
-  none-joined : 6 < s → joinedInLimits (a ∷ b ∷ c ∷ []) s ≡ true
-  unfolding joinedInLimits
-  none-joined l = simp (lt-leb s 6 l)
-
   pub curve-pieces : fits k (length sheet) ≡ true → allInLimits (a ∷ b ∷ c ∷ []) ≡ true → 6 < s → (refuse Pieces ≡ curveAnswer k (length sheet) (a ∷ b ∷ c ∷ []) s) × Left sheet
   unfolding curveAnswer
-  curve-pieces e f g = simp (e, f, none-joined g, lt-leb s 6 g) (refl, refl)
+  curve-pieces e f g = simp (e, f, none-joined a b c s g, lt-leb s 6 g) (refl, refl)
 
   pub curve-joined : fits k (length sheet) ≡ true → allInLimits (a ∷ b ∷ c ∷ []) ≡ true → s ≤ 6 → all (2 ^ s + 1) (isIn (controlsOf a b c) s) ≡ false
       → (refuse Coordinate ≡ curveAnswer k (length sheet) (a ∷ b ∷ c ∷ []) s) × Left sheet

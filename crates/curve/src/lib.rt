@@ -1,6 +1,6 @@
 // Quadratic Bézier curves: the points of each, and the lines that join them.
 ghost use mathlib.Core.Path.{_≡_};
-ghost use mathlib.Core.Bool.{true};
+ghost use mathlib.Core.Bool.{true, _&&_};
 ghost use mathlib.Core.List.{[], _∷_};
 ghost use Prim.Native.Nat.{ℕ, _+_, _^_, _≤_};
 ghost use lib.ListN.{length};
@@ -11,7 +11,7 @@ ghost use Rattle.sheet.specs.Drawn.{toldDrawn};
 ghost use Rattle.sheet.specs.Inner.{Moved, Sheet, unmovedCell};
 ghost use Rattle.line.specs.Rule.{onLine};
 ghost use Rattle.curve.specs.Rule.{onCurve};
-ghost use Rattle.curve.specs.Draw.{allInLimits, curveAnswer};
+ghost use Rattle.curve.specs.Draw.{allInLimits, joinedInLimits, curveAnswer};
 ghost use Rattle.curve.specs.Inner.{jointOf, jointAt, Bends, controlsOf, firstPieces};
 use sheet::Cell;
 use sheet::Drawn;
@@ -137,6 +137,20 @@ fn controls_of(p0: Cell, p1: Cell, p2: Cell) -> Controls
         x2: c.x,
         y2: c.y,
     }
+}
+
+// Whether the control points and the joined points of a curve are within the limits; with s above 6 none are joined.
+pub fn points_in_limits(p0: Cell, p1: Cell, p2: Cell, s: u32) -> bool
+    ensures { λ r. ⌜ r ≡ (allInLimits (p0 ∷ p1 ∷ p2 ∷ []) && joinedInLimits (p0 ∷ p1 ∷ p2 ∷ []) s) ⌝ }
+{
+    if !in_limits(p0, p1, p2) {
+        return false;
+    }
+    if 6 < s {
+        return true;
+    }
+    let controls = controls_of(p0, p1, p2);
+    all_within(controls, s)
 }
 
 // Draws the curve with these control points, split into 2^s pieces.

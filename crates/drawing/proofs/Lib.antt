@@ -1,2 +1,6 @@
-pub mod Unique
+mod Contents
+pub mod Examples
+mod Figures
 pub mod InMetres
+mod Records
+pub mod Unique

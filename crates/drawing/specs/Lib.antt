@@ -1,2 +1,4 @@
-pub mod Shown
+pub mod Figure
+pub mod File
 pub mod Metres
+pub mod Shown

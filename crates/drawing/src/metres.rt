@@ -4,40 +4,18 @@ ghost use mathlib.Core.Bool.{true};
 ghost use lib.ListN.{length};
 ghost use Rattle.sheet.specs.Sheet.{fits, inLimits, paint};
 ghost use Rattle.sheet.specs.Reply.{settled};
-ghost use Rattle.sheet.specs.Drawn.{toldDrawn};
-ghost use Rattle.sheet.specs.Counted.{toldCounted};
 ghost use Rattle.survey.specs.declared.InCells.the-variants as cells;
 ghost use Rattle.drawing.specs.Shown.{toldShown};
 ghost use Rattle.drawing.specs.Metres.{cellsAnswer, onCells, metresAnswer, onMetres};
 use crate::Shown;
+use crate::shown_cells;
+use crate::shown_done;
 use sheet::Cell;
-use sheet::Counted;
-use sheet::Drawn;
 use sheet::Refusal;
 use sheet::Shape;
 use survey::InCells;
 use survey::Metres;
 use survey::Survey;
-
-// The reply of a drawing that counts its cells, as that of any kind.
-fn shown_cells(reply: Counted) -> Shown
-    ensures { λ r. ⌜ toldShown r ≡ toldCounted reply ⌝ }
-{
-    match reply {
-        Counted::Done(cells) => Shown::Cells(cells),
-        Counted::Refused(refusal) => Shown::Refused(refusal),
-    }
-}
-
-// And that of one that does not.
-fn shown(reply: Drawn) -> Shown
-    ensures { λ r. ⌜ toldShown r ≡ toldDrawn reply ⌝ }
-{
-    match reply {
-        Drawn::Done => Shown::Done,
-        Drawn::Refused(refusal) => Shown::Refused(refusal),
-    }
-}
 
 // Draws the line between two ends within the limits.
 fn show_line(sheet: &mut [u8], shape: Shape, ink: u8, from: Cell, to: Cell) -> Shown
@@ -57,7 +35,7 @@ fn show_circle(sheet: &mut [u8], shape: Shape, ink: u8, centre: Cell, r: i32) ->
     if r < 0 {
         return Shown::Refused(Refusal::Radius);
     }
-    shown(ring::draw_circle(sheet, shape, ink, centre, r as u32))
+    shown_done(ring::draw_circle(sheet, shape, ink, centre, r as u32))
 }
 
 // Draws the ellipse about a centre within the limits, of semi-axes that may be below 0.
@@ -72,7 +50,7 @@ fn show_ellipse(sheet: &mut [u8], shape: Shape, ink: u8, centre: Cell, a: i32, b
     if b < 0 {
         return Shown::Refused(Refusal::Radius);
     }
-    shown(ring::draw_ellipse(sheet, shape, ink, centre, a as u32, b as u32))
+    shown_done(ring::draw_ellipse(sheet, shape, ink, centre, a as u32, b as u32))
 }
 
 // Draws the figure: first the sheet is tested, then the survey, then each field.

@@ -22,8 +22,8 @@ cast-draw-circle c = let start = c .before .before .before in casts (start .args
 draw-circle-requires : tie.Need-draw-circle-requires
 draw-circle-requires c κs = search needs
 
-shown-requires : tie.Need-shown-requires
-shown-requires c κs = search needs
+shown-done-requires : tie.Need-shown-done-requires
+shown-done-requires c κs = search needs
 
 same-length : tie.Need-same-length
 same-length c = search needs
@@ -38,8 +38,8 @@ returns-2 c =
     ring-shown (a .shape) (a .ink) (now (a .sheet)) (start .pre .0) (a .centre) (start .pre .1) _ _ _ _
     (ap (λ (z : ℤ). radius (natAbs z)) (toZ-ofZ f) ∙ radius-as (a .r) (not-below (a .r) f (tested .if1 .left)))
     (ap (λ (z : ℤ). circleRule (natAbs z)) (toZ-ofZ f))
-    _ _ _ (c .shown .ensures) (called .draw-circle .ensures .0) (called .draw-circle .ensures .1)
+    _ _ _ (c .shown-done .ensures) (called .draw-circle .ensures .0) (called .draw-circle .ensures .1)
 
 pub show-circle-spec : {M : Type 1} → statement M
 show-circle-spec =
-    tie.close (tie.spec returns cast-draw-circle draw-circle-requires shown-requires same-length returns-2)
+    tie.close (tie.spec returns cast-draw-circle draw-circle-requires shown-done-requires same-length returns-2)

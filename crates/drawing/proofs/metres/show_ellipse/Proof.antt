@@ -37,8 +37,8 @@ cast-draw-ellipse-2 c =
 draw-ellipse-requires : tie.Need-draw-ellipse-requires
 draw-ellipse-requires c κs = search needs
 
-shown-requires : tie.Need-shown-requires
-shown-requires c κs = search needs
+shown-done-requires : tie.Need-shown-done-requires
+shown-done-requires c κs = search needs
 
 same-length : tie.Need-same-length
 same-length c = search needs
@@ -55,7 +55,7 @@ returns-3 c =
     ring-shown (a .shape) (a .ink) (now (a .sheet)) (start .pre .0) (a .centre) (start .pre .1) _ _ _ _
     (ap₂ (λ (y z : ℤ). semiAxes (natAbs y) (natAbs z)) (toZ-ofZ f) (toZ-ofZ g) ∙ axes-as (a .a) (a .b) (not-below (a .a) f (first .if1 .left)) (not-below (a .b) g (both .if2 .left)))
     (ap₂ (λ (y z : ℤ). ellipseRule (natAbs y) (natAbs z)) (toZ-ofZ f) (toZ-ofZ g))
-    _ _ _ (c .shown .ensures) (called .draw-ellipse .ensures .0) (called .draw-ellipse .ensures .1)
+    _ _ _ (c .shown-done .ensures) (called .draw-ellipse .ensures .0) (called .draw-ellipse .ensures .1)
 
 pub show-ellipse-spec : {M : Type 1} → statement M
 show-ellipse-spec =
@@ -66,6 +66,6 @@ show-ellipse-spec =
     cast-draw-ellipse
     cast-draw-ellipse-2
     draw-ellipse-requires
-    shown-requires
+    shown-done-requires
     same-length
     returns-3)

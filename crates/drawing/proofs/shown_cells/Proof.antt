@@ -1,9 +1,9 @@
--- `drawing::metres::shown_cells` meets its contract.
-use mathlib.Core.Path.{ap, sym}
+-- `drawing::shown_cells` meets its contract.
+use mathlib.Core.Path.{sym, ap}
 use borrow.Author.Needs.{needs}
 use Rattle.sheet.specs.Counted.{toldCounted}
-use Rattle.drawing.proofs.metres.shown_cells.Statement.{statement}
-use Rattle.drawing.proofs.metres.shown_cells.Tie as tie
+use Rattle.drawing.proofs.shown_cells.Statement.{statement}
+use Rattle.drawing.proofs.shown_cells.Tie as tie
 
 enum-known-reply : tie.Need-enum-known-reply
 enum-known-reply c = search needs

@@ -1,0 +1,20 @@
+-- Document 01, "Record file": the empty file is done with 0 records.
+use mathlib.Core.Path.{_≡_, refl}
+use mathlib.Core.Bool.{true}
+use mathlib.Core.List.{List, [], _∷_}
+use Prim.Native.Nat.{ℕ}
+use lib.IntN.{pos}
+use Rattle.sheet.specs.Sheet.{fits}
+use Rattle.sheet.specs.Reply.{done}
+use Rattle.sheet.specs.declared.Shape.{Shape}
+use Rattle.record.specs.Reading.{foundAt, readAt}
+use Rattle.drawing.specs.File.{contentsIn, contentsFrom, contents, recordsOf, paintAll, drawFileAnswer}
+
+pub empty-file : (k : Shape) (n : ℕ) → fits k n ≡ true → drawFileAnswer k n [] ≡ done (pos 0 ∷ [])
+unfolding drawFileAnswer contents contentsFrom contentsIn readAt foundAt
+empty-file k n e = simp e
+
+-- and leaves the sheet as it was
+pub empty-picture : (k : Shape) (s : List ℕ) → paintAll k (recordsOf (contents [])) s ≡ s
+unfolding paintAll contents contentsFrom contentsIn readAt foundAt
+empty-picture k s = refl
