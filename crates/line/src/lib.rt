@@ -20,13 +20,13 @@ pub use pen::Step;
 pub use pen::advance;
 
 // A line on the moved plane, from its lesser end: where it starts, whether it goes right, whether its longer extent is that of y, and both extents.
-pub struct Course {
-    pub x: u32,
-    pub y: u32,
-    pub right: bool,
-    pub steep: bool,
-    pub long: u32,
-    pub short: u32,
+struct Course {
+    x: u32,
+    y: u32,
+    right: bool,
+    steep: bool,
+    long: u32,
+    short: u32,
 }
 
 fn chosen(first: bool, a: u32, b: u32) -> u32
