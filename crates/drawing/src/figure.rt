@@ -14,7 +14,7 @@ use sheet::Drawn;
 use sheet::Shape;
 
 // The reply of a drawing that counts its cells, as that of any kind.
-fn shown_cells(reply: Counted) -> Shown
+pub(crate) fn shown_cells(reply: Counted) -> Shown
     ensures { λ r. ⌜ toldShown r ≡ toldCounted reply ⌝ }
 {
     match reply {
@@ -24,7 +24,7 @@ fn shown_cells(reply: Counted) -> Shown
 }
 
 // And that of one that does not.
-fn shown(reply: Drawn) -> Shown
+pub(crate) fn shown(reply: Drawn) -> Shown
     ensures { λ r. ⌜ toldShown r ≡ toldDrawn reply ⌝ }
 {
     match reply {
