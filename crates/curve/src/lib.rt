@@ -146,11 +146,11 @@ pub fn points_in_limits(p0: Cell, p1: Cell, p2: Cell, s: u32) -> bool
     if !in_limits(p0, p1, p2) {
         return false;
     }
-    if 6 < s {
-        return true;
+    if s <= 6 {
+        let controls = controls_of(p0, p1, p2);
+        return all_within(controls, s);
     }
-    let controls = controls_of(p0, p1, p2);
-    all_within(controls, s)
+    true
 }
 
 // Draws the curve with these control points, split into 2^s pieces.

@@ -26,11 +26,6 @@ returns c =
     let a = c .before .before .args in
     control-out (a .p0) (a .p1) (a .p2) (a .s) (no _ _ (c .before .in-limits .ensures) (c .if1 .taken))
 
-returns-2 : tie.Need-returns-2
-returns-2 c =
-    let a = c .before .before .before .args in
-    no-points (a .p0) (a .p1) (a .p2) (a .s) (limited (c .before)) (c .if2 .taken)
-
 controls-of-requires : tie.Need-controls-of-requires
 controls-of-requires c κs = search needs
 
@@ -38,15 +33,20 @@ all-within-requires : tie.Need-all-within-requires
 all-within-requires c κs =
     let inside = c .before .before in
     let a = inside .before .before .args in
-    (subst Bends (sym (c .controls-of .ensures)) (bends (a .p0) (a .p1) (a .p2) (limited inside)), c .before .if2 .left)
+    (subst Bends (sym (c .controls-of .ensures)) (bends (a .p0) (a .p1) (a .p2) (limited inside)), c .before .if2 .taken)
 
-returns-3 : tie.Need-returns-3
-returns-3 c =
+returns-2 : tie.Need-returns-2
+returns-2 c =
     let bent = c .before in
     let inside = bent .before .before in
     let a = inside .before .before .args in
-    points-tested (a .p0) (a .p1) (a .p2) (a .s) (limited inside) (bent .before .if2 .left) (c .all-within .result)
+    points-tested (a .p0) (a .p1) (a .p2) (a .s) (limited inside) (bent .before .if2 .taken) (c .all-within .result)
     (c .all-within .ensures ∙ ap (λ (k : Controls). all (2 ^ a .s + 1) (isIn k (a .s))) (bent .controls-of .ensures))
+
+returns-3 : tie.Need-returns-3
+returns-3 c =
+    let a = c .before .before .before .args in
+    no-points (a .p0) (a .p1) (a .p2) (a .s) (limited (c .before)) (c .if2 .left)
 
 pub points-in-limits-spec : {M : Type 1} → statement M
 points-in-limits-spec =
@@ -54,7 +54,7 @@ points-in-limits-spec =
     (tie.spec
     in-limits-requires
     returns
-    returns-2
     controls-of-requires
     all-within-requires
+    returns-2
     returns-3)
