@@ -1,0 +1,4 @@
+mod Digits
+mod Lines
+mod Told
+mod Writing
