@@ -1,4 +1,5 @@
 mod Digits
+pub mod Examples
 mod Lines
 mod Told
 mod Writing

@@ -2,6 +2,7 @@
 mod text;
 
 fn main() {
+    // One byte more than is drawn, so that a longer input shows.
     let mut file = [0u8; 4097];
     let count = io::read_full(0, &mut file);
     let mut out = [0u8; 136];
