@@ -1,0 +1,5 @@
+mod Digits
+pub mod Examples
+mod Lines
+mod Told
+mod Writing

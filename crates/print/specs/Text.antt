@@ -1,0 +1,77 @@
+-- Document 01, last part of "Record file": the text that the printing program prints for the bytes of its input.
+use Prim.Native.Nat.{ℕ, zero, suc, _+_, _/_, _%_}
+use mathlib.Core.List.{List, [], _∷_, _++_}
+use mathlib.Core.Bool.{cond}
+use lib.Dec.{leb, ltb, eqb}
+use lib.IntN.{pos, natAbs}
+use lib.ListN.{length, getD, replicate}
+use Rattle.sheet.specs.Sheet.{bytes, place, cellOf}
+use Rattle.sheet.specs.Reply.{Answer, settled}
+use Rattle.sheet.specs.declared.Shape.{Shape}
+use Rattle.drawing.specs.File.{contents, recordsOf, paintAll, drawFileAnswer}
+
+-- Every line ends with a newline.
+abbrev pub newline : List ℕ
+newline = 10 ∷ []
+
+-- n texts, one after the other
+unfoldable pub inTurn : ℕ → (ℕ → List ℕ) → List ℕ
+inTurn zero part = []
+inTurn (suc n) part = inTurn n part ++ part n
+
+-- a 16 by 8 sheet ..
+abbrev pub sheet : Shape
+sheet = record { width = 16; height = 8 }
+
+-- .. of zeros
+abbrev pub zeros : List ℕ
+zeros = replicate (bytes sheet) 0
+
+-- `.` for byte 0 and `#` otherwise
+abbrev pub character : ℕ → ℕ
+character byte = cond (eqb byte 0) 46 35
+
+-- the character of cell (x, y) on a sheet of bytes s
+unfoldable pub cell : List ℕ → ℕ → ℕ → List ℕ
+cell s y x = character (getD s (place sheet (cellOf x y)) 0) ∷ []
+
+-- a line of 16 characters, x = 0 leftmost
+unfoldable pub line : List ℕ → ℕ → List ℕ
+line s y = inTurn 16 (cell s y) ++ newline
+
+-- 8 lines, y = 0 first
+unfoldable pub picture : List ℕ → List ℕ
+picture s = inTurn 8 (line s)
+
+-- a number below 10 is one digit, any other that of its tenths before that of its ones: at most n digits
+unfoldable pub decimalIn : ℕ → ℕ → List ℕ
+decimalIn zero v = []
+decimalIn (suc n) v = cond (ltb v 10) ((48 + v) ∷ []) (decimalIn n (v / 10) ++ ((48 + v % 10) ∷ []))
+
+-- a number in decimal digits
+unfoldable pub decimal : ℕ → List ℕ
+decimal v = decimalIn (suc v) v
+
+-- `refused`, a blank, the number, ` at `, the offset
+unfoldable pub refusal : ℕ → ℕ → List ℕ
+refusal number offset =
+    (114 ∷ 101 ∷ 102 ∷ 117 ∷ 115 ∷ 101 ∷ 100 ∷ 32 ∷ []) ++ decimal number ++ (32 ∷ 97 ∷ 116 ∷ 32 ∷ []) ++ decimal offset ++ newline
+
+-- `input too long`
+abbrev pub tooLong : List ℕ
+tooLong = (105 ∷ 110 ∷ 112 ∷ 117 ∷ 116 ∷ 32 ∷ 116 ∷ 111 ∷ 111 ∷ 32 ∷ 108 ∷ 111 ∷ 110 ∷ 103 ∷ []) ++ newline
+
+-- the offset of a file's refusal
+abbrev pub offsetOf : Answer → ℕ
+offsetOf a = natAbs (getD (a .values) 0 (pos 0))
+
+-- the picture of what was drawn, or the line of the refusal
+abbrev pub told : Answer → List ℕ → List ℕ
+told a drawn = settled a (picture drawn) (refusal (a .number) (offsetOf a))
+
+-- A file of at most 4,096 bytes is drawn on the sheet of zeros; a longer one is too long.
+unfoldable pub textOf : List ℕ → List ℕ
+textOf file =
+    cond (leb (length file) 4096)
+    (told (drawFileAnswer sheet (bytes sheet) file) (paintAll sheet (recordsOf (contents file)) zeros))
+    tooLong
