@@ -1,0 +1,48 @@
+-- `pistonwool::cells::pw_list` meets its contract.
+use denote.Ref.{now}
+use lib.ListN.{length}
+use Rattle.sheet.specs.Reply.{Answer}
+use Rattle.sheet.specs.declared.Cell.{Cell}
+use Rattle.line.specs.Listing.{listAnswer, listedOver}
+use Rattle.pistonwool.proofs.Told.{cell-back, left, number-told, done-told}
+use borrow.Author.Needs.{needs}
+use Rattle.pistonwool.proofs.cells.pw_list.Statement.{statement}
+use Rattle.pistonwool.proofs.cells.pw_list.Tie as tie
+
+list-line-requires : tie.Need-list-line-requires
+list-line-requires c κs = search needs
+
+number-of-counted-requires : tie.Need-number-of-counted-requires
+number-of-counted-requires c κs = search needs
+
+same-length : tie.Need-same-length
+same-length c = search needs
+
+same-length-2 : tie.Need-same-length-2
+same-length-2 c = search needs
+
+returns : tie.Need-returns
+returns c =
+    let called = c .before .before .before .before in
+    let start = called .before .before .before in
+    let a = start .args in
+    let f = start .fits in
+    let p = cell-back (a .x0) (a .y0) (f .x0) (f .y0) in
+    let q = cell-back (a .x1) (a .y1) (f .x1) (f .y1) in
+    let answer : Cell × Cell → Answer = λ l. listAnswer (length (now (a .xs))) (length (now (a .ys))) (l .0) (l .1) in
+    let told = called .list-line .ensures in
+    let said = c .number-of-counted .ensures in (
+      number-told answer _ _ (λ i. (p i, q i)) _ (told .0) _ (said .0),
+      (
+        done-told answer _ _ (λ i. (p i, q i)) _ (told .0) _ _ (said .1),
+        (
+          left answer _ _ (λ i. (p i, q i)) (λ (l : Cell × Cell). listedOver (λ (d : Cell). d .x) (l .0) (l .1) (now (a .xs))) _ _ (told .1 .0),
+          left answer _ _ (λ i. (p i, q i)) (λ (l : Cell × Cell). listedOver (λ (d : Cell). d .y) (l .0) (l .1) (now (a .ys))) _ _ (told .1 .1),
+        ),
+      ),
+    )
+
+pub pw-list-spec : {M : Type 1} → statement M
+pw-list-spec =
+    tie.close
+    (tie.spec list-line-requires number-of-counted-requires same-length same-length-2 returns)
