@@ -6,21 +6,18 @@ use mir.Syntax.{w32}
 use mir.Val.{SFits, toZ, ofZ}
 use mir.Facts.{toZ-ofZ}
 use Rattle.sheet.specs.Reply.{Answer, refuse, settled}
-use Rattle.sheet.specs.declared.Cell.{Cell}
 use Rattle.sheet.specs.declared.Refusal.{Refusal}
 use Rattle.sheet.proofs.Unique.{number-not-0}
-use Rattle.pistonwool.specs.Told.{value, doneValue, cellOf}
+use Rattle.survey.specs.Metres.{cell}
+use Rattle.pistonwool.specs.Told.{firstValue}
 
 -- a refusal leaves what was before
-pub kept : (r : Refusal) (before : ℕ) → before ≡ doneValue (refuse r) before
+pub kept : (r : Refusal) (before : ℕ) → before ≡ firstValue (refuse r) before
 kept r before = simp (number-not-0 r)
 
 -- a cell, as the machine reads its coordinates back from their bits
-abbrev pub bitsOf : ℤ → ℤ → Cell
-bitsOf x y = cellOf (toZ w32 (ofZ w32 x)) (toZ w32 (ofZ w32 y))
-
-pub cell-back : (x y : ℤ) → SFits w32 x → SFits w32 y → bitsOf x y ≡ cellOf x y
-cell-back x y f g = ap₂ cellOf (toZ-ofZ f) (toZ-ofZ g)
+pub cell-back : (x y : ℤ) → SFits w32 x → SFits w32 y → cell (toZ w32 (ofZ w32 x)) (toZ w32 (ofZ w32 y)) ≡ cell x y
+cell-back x y f g = ap₂ cell (toZ-ofZ f) (toZ-ofZ g)
 
 -- an answer about p is one about q where they are equal
 module _ {C : Type 0} (answer : C → Answer) (p q : C) (e : p ≡ q) where
@@ -32,8 +29,5 @@ module _ {C : Type 0} (answer : C → Answer) (p q : C) (e : p ≡ q) where
     pub number-told : (r : ℕ) → r ≡ a .number → r ≡ answer q .number
     number-told r h = h ∙ ap (λ (x : Answer). x .number) (told ∙ ap answer e)
 
-    pub done-told : (v before : ℕ) → v ≡ doneValue a before → v ≡ doneValue (answer q) before
-    done-told v before h = h ∙ ap (λ (x : Answer). doneValue x before) (told ∙ ap answer e)
-
-    pub value-told : (v before : ℕ) → v ≡ value a before → v ≡ value (answer q) before
-    value-told v before h = h ∙ ap (λ (x : Answer). value x before) (told ∙ ap answer e)
+    pub value-told : (v before : ℕ) → v ≡ firstValue a before → v ≡ firstValue (answer q) before
+    value-told v before h = h ∙ ap (λ (x : Answer). firstValue x before) (told ∙ ap answer e)

@@ -11,7 +11,8 @@ ghost use Rattle.ring.specs.Ring.{onCircle, onEllipse};
 ghost use Rattle.ring.specs.Answer.{circleAnswer, ellipseAnswer};
 ghost use Rattle.curve.specs.Rule.{onCurve};
 ghost use Rattle.curve.specs.Draw.{curveAnswer};
-ghost use Rattle.pistonwool.specs.Told.{doneValue, shapeOf, cellOf};
+ghost use Rattle.survey.specs.Metres.{cell};
+ghost use Rattle.pistonwool.specs.Told.{firstValue, shapeOf};
 use crate::number_of_counted;
 use crate::number_of_drawn;
 use sheet::Cell;
@@ -30,9 +31,9 @@ pub extern "C" fn pw_line(
     y1: i32,
     cells: &mut u32,
 ) -> u32
-    ensures { λ d. ⌜ d ≡ lineAnswer (shapeOf width height) (length (now (sheet .entry))) (cellOf x0 y0) (cellOf x1 y1) .number ⌝ }
-    ensures { λ d. ⌜ now (cells .exit) ≡ doneValue (lineAnswer (shapeOf width height) (length (now (sheet .entry))) (cellOf x0 y0) (cellOf x1 y1)) (now (cells .entry)) ⌝ }
-    ensures { λ d. ⌜ now (sheet .exit) ≡ settled (lineAnswer (shapeOf width height) (length (now (sheet .entry))) (cellOf x0 y0) (cellOf x1 y1)) (paint (shapeOf width height) ink (onLine (cellOf x0 y0) (cellOf x1 y1)) (now (sheet .entry))) (now (sheet .entry)) ⌝ }
+    ensures { λ d. ⌜ d ≡ lineAnswer (shapeOf width height) (length (now (sheet .entry))) (cell x0 y0) (cell x1 y1) .number ⌝ }
+    ensures { λ d. ⌜ now (cells .exit) ≡ firstValue (lineAnswer (shapeOf width height) (length (now (sheet .entry))) (cell x0 y0) (cell x1 y1)) (now (cells .entry)) ⌝ }
+    ensures { λ d. ⌜ now (sheet .exit) ≡ settled (lineAnswer (shapeOf width height) (length (now (sheet .entry))) (cell x0 y0) (cell x1 y1)) (paint (shapeOf width height) ink (onLine (cell x0 y0) (cell x1 y1)) (now (sheet .entry))) (now (sheet .entry)) ⌝ }
 {
     let shape = Shape { width, height };
     let from = Cell { x: x0, y: y0 };
@@ -51,8 +52,8 @@ pub extern "C" fn pw_circle(
     y: i32,
     r: u32,
 ) -> u32
-    ensures { λ d. ⌜ d ≡ circleAnswer (shapeOf width height) (length (now (sheet .entry))) (cellOf x y) r .number ⌝ }
-    ensures { λ d. ⌜ now (sheet .exit) ≡ settled (circleAnswer (shapeOf width height) (length (now (sheet .entry))) (cellOf x y) r) (paint (shapeOf width height) ink (onCircle (cellOf x y) r) (now (sheet .entry))) (now (sheet .entry)) ⌝ }
+    ensures { λ d. ⌜ d ≡ circleAnswer (shapeOf width height) (length (now (sheet .entry))) (cell x y) r .number ⌝ }
+    ensures { λ d. ⌜ now (sheet .exit) ≡ settled (circleAnswer (shapeOf width height) (length (now (sheet .entry))) (cell x y) r) (paint (shapeOf width height) ink (onCircle (cell x y) r) (now (sheet .entry))) (now (sheet .entry)) ⌝ }
 {
     let shape = Shape { width, height };
     let centre = Cell { x, y };
@@ -71,8 +72,8 @@ pub extern "C" fn pw_ellipse(
     a: u32,
     b: u32,
 ) -> u32
-    ensures { λ d. ⌜ d ≡ ellipseAnswer (shapeOf width height) (length (now (sheet .entry))) (cellOf x y) a b .number ⌝ }
-    ensures { λ d. ⌜ now (sheet .exit) ≡ settled (ellipseAnswer (shapeOf width height) (length (now (sheet .entry))) (cellOf x y) a b) (paint (shapeOf width height) ink (onEllipse (cellOf x y) a b) (now (sheet .entry))) (now (sheet .entry)) ⌝ }
+    ensures { λ d. ⌜ d ≡ ellipseAnswer (shapeOf width height) (length (now (sheet .entry))) (cell x y) a b .number ⌝ }
+    ensures { λ d. ⌜ now (sheet .exit) ≡ settled (ellipseAnswer (shapeOf width height) (length (now (sheet .entry))) (cell x y) a b) (paint (shapeOf width height) ink (onEllipse (cell x y) a b) (now (sheet .entry))) (now (sheet .entry)) ⌝ }
 {
     let shape = Shape { width, height };
     let centre = Cell { x, y };
@@ -94,8 +95,8 @@ pub extern "C" fn pw_curve(
     y2: i32,
     s: u32,
 ) -> u32
-    ensures { λ d. ⌜ d ≡ curveAnswer (shapeOf width height) (length (now (sheet .entry))) ((cellOf x0 y0) ∷ (cellOf x1 y1) ∷ (cellOf x2 y2) ∷ []) s .number ⌝ }
-    ensures { λ d. ⌜ now (sheet .exit) ≡ settled (curveAnswer (shapeOf width height) (length (now (sheet .entry))) ((cellOf x0 y0) ∷ (cellOf x1 y1) ∷ (cellOf x2 y2) ∷ []) s) (paint (shapeOf width height) ink (onCurve ((cellOf x0 y0) ∷ (cellOf x1 y1) ∷ (cellOf x2 y2) ∷ []) s) (now (sheet .entry))) (now (sheet .entry)) ⌝ }
+    ensures { λ d. ⌜ d ≡ curveAnswer (shapeOf width height) (length (now (sheet .entry))) ((cell x0 y0) ∷ (cell x1 y1) ∷ (cell x2 y2) ∷ []) s .number ⌝ }
+    ensures { λ d. ⌜ now (sheet .exit) ≡ settled (curveAnswer (shapeOf width height) (length (now (sheet .entry))) ((cell x0 y0) ∷ (cell x1 y1) ∷ (cell x2 y2) ∷ []) s) (paint (shapeOf width height) ink (onCurve ((cell x0 y0) ∷ (cell x1 y1) ∷ (cell x2 y2) ∷ []) s) (now (sheet .entry))) (now (sheet .entry)) ⌝ }
 {
     let shape = Shape { width, height };
     let p0 = Cell { x: x0, y: y0 };
@@ -115,10 +116,10 @@ pub extern "C" fn pw_list(
     y1: i32,
     cells: &mut u32,
 ) -> u32
-    ensures { λ d. ⌜ d ≡ listAnswer (length (now (xs .entry))) (length (now (ys .entry))) (cellOf x0 y0) (cellOf x1 y1) .number ⌝ }
-    ensures { λ d. ⌜ now (cells .exit) ≡ doneValue (listAnswer (length (now (xs .entry))) (length (now (ys .entry))) (cellOf x0 y0) (cellOf x1 y1)) (now (cells .entry)) ⌝ }
-    ensures { λ d. ⌜ now (xs .exit) ≡ settled (listAnswer (length (now (xs .entry))) (length (now (ys .entry))) (cellOf x0 y0) (cellOf x1 y1)) (listedOver (λ c. c .x) (cellOf x0 y0) (cellOf x1 y1) (now (xs .entry))) (now (xs .entry)) ⌝ }
-    ensures { λ d. ⌜ now (ys .exit) ≡ settled (listAnswer (length (now (xs .entry))) (length (now (ys .entry))) (cellOf x0 y0) (cellOf x1 y1)) (listedOver (λ c. c .y) (cellOf x0 y0) (cellOf x1 y1) (now (ys .entry))) (now (ys .entry)) ⌝ }
+    ensures { λ d. ⌜ d ≡ listAnswer (length (now (xs .entry))) (length (now (ys .entry))) (cell x0 y0) (cell x1 y1) .number ⌝ }
+    ensures { λ d. ⌜ now (cells .exit) ≡ firstValue (listAnswer (length (now (xs .entry))) (length (now (ys .entry))) (cell x0 y0) (cell x1 y1)) (now (cells .entry)) ⌝ }
+    ensures { λ d. ⌜ now (xs .exit) ≡ settled (listAnswer (length (now (xs .entry))) (length (now (ys .entry))) (cell x0 y0) (cell x1 y1)) (listedOver (λ c. c .x) (cell x0 y0) (cell x1 y1) (now (xs .entry))) (now (xs .entry)) ⌝ }
+    ensures { λ d. ⌜ now (ys .exit) ≡ settled (listAnswer (length (now (xs .entry))) (length (now (ys .entry))) (cell x0 y0) (cell x1 y1)) (listedOver (λ c. c .y) (cell x0 y0) (cell x1 y1) (now (ys .entry))) (now (ys .entry)) ⌝ }
 {
     let from = Cell { x: x0, y: y0 };
     let to = Cell { x: x1, y: y1 };

@@ -4,7 +4,7 @@ ghost use Rattle.sheet.specs.Counted.{toldCounted};
 ghost use Rattle.sheet.specs.Drawn.{toldDrawn};
 ghost use Rattle.drawing.specs.Shown.{toldShown};
 ghost use Rattle.drawing.specs.File.{toldFiled};
-ghost use Rattle.pistonwool.specs.Told.{value, doneValue};
+ghost use Rattle.pistonwool.specs.Told.{replied, firstValue};
 
 mod cells;
 mod file;
@@ -24,10 +24,10 @@ pub use metres::pw_line_metres;
 use sheet::Counted;
 use sheet::Drawn;
 
-// The number of a reply that counts cells; their number goes where it is lent a place.
+// The number of a reply that counts cells; how many goes to cells.
 fn number_of_counted(reply: Counted, cells: &mut u32) -> u32
     ensures { λ r. ⌜ r ≡ toldCounted reply .number ⌝ }
-    ensures { λ r. ⌜ now (cells .exit) ≡ doneValue (toldCounted reply) (now (cells .entry)) ⌝ }
+    ensures { λ r. ⌜ now (cells .exit) ≡ firstValue (toldCounted reply) (now (cells .entry)) ⌝ }
 {
     match reply {
         Counted::Done(count) => {
@@ -61,7 +61,7 @@ fn number_of_shown(reply: Shown) -> u32
 
 // And its number of cells, where it tells one.
 fn cells_of_shown(reply: Shown, cells: &mut u32)
-    ensures { λ r. ⌜ now (cells .exit) ≡ doneValue (toldShown reply) (now (cells .entry)) ⌝ }
+    ensures { λ r. ⌜ now (cells .exit) ≡ firstValue (toldShown reply) (now (cells .entry)) ⌝ }
 {
     match reply {
         Shown::Done => {}
@@ -72,18 +72,17 @@ fn cells_of_shown(reply: Shown, cells: &mut u32)
     }
 }
 
-// The number of a file's reply; its number of records, or the refusal's offset, goes where it is lent a place.
-fn number_of_filed(reply: Filed, place: &mut u64) -> u32
-    ensures { λ r. ⌜ r ≡ toldFiled reply .number ⌝ }
-    ensures { λ r. ⌜ now (place .exit) ≡ value (toldFiled reply) (now (place .entry)) ⌝ }
+// The number of a file's reply; how many records, or the refusal's offset, goes to value.
+fn number_of_filed(reply: Filed, value: &mut u64) -> u32
+    ensures { λ r. ⌜ replied r (now (value .exit)) ≡ toldFiled reply ⌝ }
 {
     match reply {
         Filed::Done(records) => {
-            *place = records as u64;
+            *value = records as u64;
             0
         }
         Filed::Refused(refusal, offset) => {
-            *place = offset as u64;
+            *value = offset as u64;
             refusal.number()
         }
     }

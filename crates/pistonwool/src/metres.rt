@@ -5,7 +5,7 @@ ghost use Rattle.sheet.specs.Sheet.{paint};
 ghost use Rattle.sheet.specs.Reply.{settled};
 ghost use Rattle.survey.specs.declared.Metres.the-variants as metres;
 ghost use Rattle.drawing.specs.Metres.{metresAnswer, onMetres};
-ghost use Rattle.pistonwool.specs.Told.{doneValue, shapeOf, surveyOf};
+ghost use Rattle.pistonwool.specs.Told.{firstValue, shapeOf, surveyOf};
 use crate::cells_of_shown;
 use crate::number_of_shown;
 use sheet::Shape;
@@ -29,7 +29,7 @@ pub extern "C" fn pw_line_metres(
     cells: &mut u32,
 ) -> u32
     ensures { λ d. ⌜ d ≡ metresAnswer (shapeOf width height) (length (now (sheet .entry))) (surveyOf east north size) (metres.Line x0 y0 x1 y1) .number ⌝ }
-    ensures { λ d. ⌜ now (cells .exit) ≡ doneValue (metresAnswer (shapeOf width height) (length (now (sheet .entry))) (surveyOf east north size) (metres.Line x0 y0 x1 y1)) (now (cells .entry)) ⌝ }
+    ensures { λ d. ⌜ now (cells .exit) ≡ firstValue (metresAnswer (shapeOf width height) (length (now (sheet .entry))) (surveyOf east north size) (metres.Line x0 y0 x1 y1)) (now (cells .entry)) ⌝ }
     ensures { λ d. ⌜ now (sheet .exit) ≡ settled (metresAnswer (shapeOf width height) (length (now (sheet .entry))) (surveyOf east north size) (metres.Line x0 y0 x1 y1)) (paint (shapeOf width height) ink (onMetres (surveyOf east north size) (metres.Line x0 y0 x1 y1)) (now (sheet .entry))) (now (sheet .entry)) ⌝ }
 {
     let shape = Shape { width, height };

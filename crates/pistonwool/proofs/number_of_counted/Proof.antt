@@ -1,7 +1,7 @@
 -- `pistonwool::number_of_counted` meets its contract.
 use mathlib.Core.Path.{refl, sym}
 use Rattle.sheet.specs.Counted.{toldCounted}
-use Rattle.pistonwool.proofs.Told.{kept, number-told, done-told}
+use Rattle.pistonwool.proofs.Told.{kept, number-told, value-told}
 use borrow.Author.Needs.{needs}
 use Rattle.pistonwool.proofs.number_of_counted.Statement.{statement}
 use Rattle.pistonwool.proofs.number_of_counted.Tie as tie
@@ -18,12 +18,12 @@ number-requires c κs = search needs
 returns : tie.Need-returns
 returns c =
     let e = sym (c .before .reply .given .1) in
-    (number-told toldCounted _ _ e _ refl _ refl, done-told toldCounted _ _ e _ refl _ _ refl)
+    (number-told toldCounted _ _ e _ refl _ refl, value-told toldCounted _ _ e _ refl _ _ refl)
 
 returns-2 : tie.Need-returns-2
 returns-2 c =
     let e = sym (c .before .before .reply2 .given .1) in
-    (number-told toldCounted _ _ e _ refl _ (c .number .ensures), done-told toldCounted _ _ e _ refl _ _ (kept (c .before .before .reply2 .given .0 .0) _))
+    (number-told toldCounted _ _ e _ refl _ (c .number .ensures), value-told toldCounted _ _ e _ refl _ _ (kept (c .before .before .reply2 .given .0 .0) _))
 
 pub number-of-counted-spec : {M : Type 1} → statement M
 number-of-counted-spec =

@@ -7,7 +7,7 @@ use Rattle.sheet.specs.declared.Cell.{Cell}
 use Rattle.line.specs.Rule.{onLine}
 use Rattle.line.specs.Draw.{lineAnswer}
 use Rattle.pistonwool.specs.Told.{shapeOf}
-use Rattle.pistonwool.proofs.Told.{cell-back, left, number-told, done-told}
+use Rattle.pistonwool.proofs.Told.{cell-back, left, number-told, value-told}
 use borrow.Author.Needs.{needs}
 use Rattle.pistonwool.proofs.cells.pw_line.Statement.{statement}
 use Rattle.pistonwool.proofs.cells.pw_line.Tie as tie
@@ -36,7 +36,7 @@ returns c =
     let said = c .number-of-counted .ensures in (
       number-told answer _ _ (λ i. (p i, q i)) _ (told .0) _ (said .0),
       (
-        done-told answer _ _ (λ i. (p i, q i)) _ (told .0) _ _ (said .1),
+        value-told answer _ _ (λ i. (p i, q i)) _ (told .0) _ _ (said .1),
         left answer _ _ (λ i. (p i, q i)) (λ (l : Cell × Cell). paint k (a .ink) (onLine (l .0) (l .1)) (now (a .sheet))) _ _ (told .1),
       ),
     )

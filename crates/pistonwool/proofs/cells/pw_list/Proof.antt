@@ -4,7 +4,7 @@ use lib.ListN.{length}
 use Rattle.sheet.specs.Reply.{Answer}
 use Rattle.sheet.specs.declared.Cell.{Cell}
 use Rattle.line.specs.Listing.{listAnswer, listedOver}
-use Rattle.pistonwool.proofs.Told.{cell-back, left, number-told, done-told}
+use Rattle.pistonwool.proofs.Told.{cell-back, left, number-told, value-told}
 use borrow.Author.Needs.{needs}
 use Rattle.pistonwool.proofs.cells.pw_list.Statement.{statement}
 use Rattle.pistonwool.proofs.cells.pw_list.Tie as tie
@@ -34,7 +34,7 @@ returns c =
     let said = c .number-of-counted .ensures in (
       number-told answer _ _ (λ i. (p i, q i)) _ (told .0) _ (said .0),
       (
-        done-told answer _ _ (λ i. (p i, q i)) _ (told .0) _ _ (said .1),
+        value-told answer _ _ (λ i. (p i, q i)) _ (told .0) _ _ (said .1),
         (
           left answer _ _ (λ i. (p i, q i)) (λ (l : Cell × Cell). listedOver (λ (d : Cell). d .x) (l .0) (l .1) (now (a .xs))) _ _ (told .1 .0),
           left answer _ _ (λ i. (p i, q i)) (λ (l : Cell × Cell). listedOver (λ (d : Cell). d .y) (l .0) (l .1) (now (a .ys))) _ _ (told .1 .1),

@@ -1,7 +1,5 @@
 -- `pistonwool::file::pw_file` meets its contract.
-use mathlib.Core.Path.{refl}
-use Rattle.sheet.specs.Reply.{Answer}
-use Rattle.pistonwool.proofs.Told.{number-told, value-told}
+use mathlib.Core.Path.{_∙_}
 use borrow.Author.Needs.{needs}
 use Rattle.pistonwool.proofs.file.pw_file.Statement.{statement}
 use Rattle.pistonwool.proofs.file.pw_file.Tie as tie
@@ -18,8 +16,7 @@ same-length c = search needs
 returns : tie.Need-returns
 returns c =
     let told = c .before .before .before .before .draw-file .ensures in
-    let said = c .number-of-filed .ensures in
-    (number-told (λ (x : Answer). x) _ _ refl _ (told .0) _ (said .0), (value-told (λ (x : Answer). x) _ _ refl _ (told .0) _ _ (said .1), told .1))
+    (c .number-of-filed .ensures ∙ told .0, told .1)
 
 pub pw-file-spec : {M : Type 1} → statement M
 pw-file-spec = tie.close (tie.spec draw-file-requires number-of-filed-requires same-length returns)

@@ -1,7 +1,7 @@
 -- `pistonwool::metres::pw_line_metres` meets its contract.
 use mathlib.Core.Path.{refl}
 use Rattle.sheet.specs.Reply.{Answer}
-use Rattle.pistonwool.proofs.Told.{number-told, done-told}
+use Rattle.pistonwool.proofs.Told.{number-told, value-told}
 use borrow.Author.Needs.{needs}
 use Rattle.pistonwool.proofs.metres.pw_line_metres.Statement.{statement}
 use Rattle.pistonwool.proofs.metres.pw_line_metres.Tie as tie
@@ -21,7 +21,7 @@ same-length c = search needs
 returns : tie.Need-returns
 returns c =
     let told = c .before .before .before .before .before .draw-metres .ensures in
-    (number-told (λ (x : Answer). x) _ _ refl _ (told .0) _ (c .number-of-shown .ensures), (done-told (λ (x : Answer). x) _ _ refl _ (told .0) _ _ (c .before .cells-of-shown .ensures), told .1))
+    (number-told (λ (x : Answer). x) _ _ refl _ (told .0) _ (c .number-of-shown .ensures), (value-told (λ (x : Answer). x) _ _ refl _ (told .0) _ _ (c .before .cells-of-shown .ensures), told .1))
 
 pub pw-line-metres-spec : {M : Type 1} → statement M
 pw-line-metres-spec =
