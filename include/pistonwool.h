@@ -1,6 +1,7 @@
 /* Pistonwool: drawing on a sheet of cells, for C and C++.
  *
  * A sheet is width x height bytes, row after row: cell (x, y) is byte y * width + x.
+ * Limits: width and height 1 to 4,096; coordinates -16,384 to 16,383; radius 0 to 16,383; semi-axes 1 to 16,383; s 0 to 6.
  * Drawing sets each of a figure's cells that lies on the sheet to the ink and leaves every other byte as it was.
  * Every function answers a number of enum pw_reply. Any number other than PW_DONE is a refusal; a refusal leaves every
  * byte and every number that was lent as it was, but for the offset that pw_file tells.
@@ -19,11 +20,11 @@ extern "C" {
 enum pw_reply {
     /* done */
     PW_DONE = 0,
-    /* a sheet size is outside 1 to 4,096, or the slice length differs from width x height */
+    /* a sheet size is outside its limits, or the slice length differs from width x height */
     PW_SIZE = 1,
-    /* a coordinate, or a joined point of a curve, is outside -16,384 to 16,383 */
+    /* a coordinate, or a joined point of a curve, is outside its limits */
     PW_COORDINATE = 2,
-    /* a radius is outside 0 to 16,383, or a semi-axis outside 1 to 16,383 */
+    /* a radius or semi-axis is outside its limits */
     PW_RADIUS = 3,
     /* s is above 6 */
     PW_PIECES = 4,
@@ -31,9 +32,9 @@ enum pw_reply {
     PW_ROOM = 5,
     /* a survey's origin is not finite, or its cell size is not finite or not above zero */
     PW_SURVEY = 6,
-    /* a position or length in metres has no cell within the limits */
+    /* a position or length in metres has no cell in -16,384 to 16,383 */
     PW_NO_CELL = 7,
-    /* bytes are left, but fewer than a record needs */
+    /* bytes are left, but fewer than a record needs (only 1, or under its length after the 2 of the length) */
     PW_SHORT = 8,
     /* unknown record kind */
     PW_KIND = 9,

@@ -6,6 +6,7 @@ use mir.Syntax.{w32}
 use mir.Val.{SFits, toZ, ofZ}
 use mir.Facts.{toZ-ofZ}
 use Rattle.sheet.specs.Reply.{Answer, refuse, settled}
+use Rattle.sheet.specs.declared.Cell.{Cell}
 use Rattle.sheet.specs.declared.Refusal.{Refusal}
 use Rattle.sheet.proofs.Unique.{number-not-0}
 use Rattle.survey.specs.Metres.{cell}
@@ -19,15 +20,19 @@ kept r before = simp (number-not-0 r)
 pub cell-back : (x y : ℤ) → SFits w32 x → SFits w32 y → cell (toZ w32 (ofZ w32 x)) (toZ w32 (ofZ w32 y)) ≡ cell x y
 cell-back x y f g = ap₂ cell (toZ-ofZ f) (toZ-ofZ g)
 
--- an answer about p is one about q where they are equal
-module _ {C : Type 0} (answer : C → Answer) (p q : C) (e : p ≡ q) where
-  pub left : {A : Type 0} (drawn : C → A) (before after : A) → after ≡ settled (answer p) (drawn p) before
-      → after ≡ settled (answer q) (drawn q) before
-  left drawn before after h = h ∙ ap (λ (c : C). settled (answer c) (drawn c) before) e
+-- the two ends of a line
+pub both : {a b c d : Cell} → a ≡ c → b ≡ d → _≡_ {A = Cell × Cell} (a, b) (c, d)
+both p q = λ i. (p i, q i)
 
-  module _ (a : Answer) (told : a ≡ answer p) where
-    pub number-told : (r : ℕ) → r ≡ a .number → r ≡ answer q .number
-    number-told r h = h ∙ ap (λ (x : Answer). x .number) (told ∙ ap answer e)
+-- what was told of an answer is told of its equal
+module _ (a b : Answer) (e : a ≡ b) where
+  pub number-told : (r : ℕ) → r ≡ a .number → r ≡ b .number
+  number-told r h = h ∙ ap (λ (x : Answer). x .number) e
 
-    pub value-told : (v before : ℕ) → v ≡ firstValue a before → v ≡ firstValue (answer q) before
-    value-told v before h = h ∙ ap (λ (x : Answer). firstValue x before) (told ∙ ap answer e)
+  pub value-told : (v before : ℕ) → v ≡ firstValue a before → v ≡ firstValue b before
+  value-told v before h = h ∙ ap (λ (x : Answer). firstValue x before) e
+
+-- and what is left of what was lent
+pub left : {C A : Type 0} (answer : C → Answer) (drawn : C → A) (p q : C) → p ≡ q → (before after : A)
+    → after ≡ settled (answer p) (drawn p) before → after ≡ settled (answer q) (drawn q) before
+left answer drawn p q e before after h = h ∙ ap (λ c. settled (answer c) (drawn c) before) e

@@ -95,8 +95,8 @@ pub extern "C" fn pw_curve(
     y2: i32,
     s: u32,
 ) -> u32
-    ensures { λ d. ⌜ d ≡ curveAnswer (shapeOf width height) (length (now (sheet .entry))) ((cell x0 y0) ∷ (cell x1 y1) ∷ (cell x2 y2) ∷ []) s .number ⌝ }
-    ensures { λ d. ⌜ now (sheet .exit) ≡ settled (curveAnswer (shapeOf width height) (length (now (sheet .entry))) ((cell x0 y0) ∷ (cell x1 y1) ∷ (cell x2 y2) ∷ []) s) (paint (shapeOf width height) ink (onCurve ((cell x0 y0) ∷ (cell x1 y1) ∷ (cell x2 y2) ∷ []) s) (now (sheet .entry))) (now (sheet .entry)) ⌝ }
+    ensures { λ d. ⌜ d ≡ curveAnswer (shapeOf width height) (length (now (sheet .entry))) (cell x0 y0 ∷ cell x1 y1 ∷ cell x2 y2 ∷ []) s .number ⌝ }
+    ensures { λ d. ⌜ now (sheet .exit) ≡ settled (curveAnswer (shapeOf width height) (length (now (sheet .entry))) (cell x0 y0 ∷ cell x1 y1 ∷ cell x2 y2 ∷ []) s) (paint (shapeOf width height) ink (onCurve (cell x0 y0 ∷ cell x1 y1 ∷ cell x2 y2 ∷ []) s) (now (sheet .entry))) (now (sheet .entry)) ⌝ }
 {
     let shape = Shape { width, height };
     let p0 = Cell { x: x0, y: y0 };

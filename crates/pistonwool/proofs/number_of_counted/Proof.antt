@@ -1,5 +1,5 @@
 -- `pistonwool::number_of_counted` meets its contract.
-use mathlib.Core.Path.{refl, sym}
+use mathlib.Core.Path.{refl, sym, ap}
 use Rattle.sheet.specs.Counted.{toldCounted}
 use Rattle.pistonwool.proofs.Told.{kept, number-told, value-told}
 use borrow.Author.Needs.{needs}
@@ -17,13 +17,14 @@ number-requires c κs = search needs
 
 returns : tie.Need-returns
 returns c =
-    let e = sym (c .before .reply .given .1) in
-    (number-told toldCounted _ _ e _ refl _ refl, value-told toldCounted _ _ e _ refl _ _ refl)
+    let t = ap toldCounted (sym (c .before .reply .given .1)) in
+    (number-told _ _ t _ refl, value-told _ _ t _ _ refl)
 
 returns-2 : tie.Need-returns-2
 returns-2 c =
-    let e = sym (c .before .before .reply2 .given .1) in
-    (number-told toldCounted _ _ e _ refl _ (c .number .ensures), value-told toldCounted _ _ e _ refl _ _ (kept (c .before .before .reply2 .given .0 .0) _))
+    let refused = c .before .before .reply2 .given in
+    let t = ap toldCounted (sym (refused .1)) in
+    (number-told _ _ t _ (c .number .ensures), value-told _ _ t _ _ (kept (refused .0 .0) _))
 
 pub number-of-counted-spec : {M : Type 1} → statement M
 number-of-counted-spec =

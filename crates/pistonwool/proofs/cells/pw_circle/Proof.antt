@@ -1,4 +1,7 @@
 -- `pistonwool::cells::pw_circle` meets its contract.
+use mathlib.Core.Path.{ap, _∙_}
+use Prim.Native.Nat.{ℕ}
+use mathlib.Core.List.{List}
 use denote.Ref.{now}
 use lib.ListN.{length}
 use Rattle.sheet.specs.Reply.{Answer}
@@ -29,12 +32,11 @@ returns c =
     let f = start .fits in
     let k = shapeOf (a .width) (a .height) in
     let n = length (now (a .sheet)) in
-    let p = cell-back (a .x) (a .y) (f .x) (f .y) in
+    let e = cell-back (a .x) (a .y) (f .x) (f .y) in
     let answer : Cell → Answer = λ d. circleAnswer k n d (a .r) in
-    let told = called .draw-circle .ensures in (
-      number-told answer _ _ p _ (told .0) _ (c .number-of-drawn .ensures),
-      left answer _ _ p (λ (d : Cell). paint k (a .ink) (onCircle d (a .r)) (now (a .sheet))) _ _ (told .1),
-    )
+    let drawn : Cell → List ℕ = λ d. paint k (a .ink) (onCircle d (a .r)) (now (a .sheet)) in
+    let told = called .draw-circle .ensures in
+    (number-told _ _ (told .0 ∙ ap answer e) _ (c .number-of-drawn .ensures), left answer drawn _ _ e _ _ (told .1))
 
 pub pw-circle-spec : {M : Type 1} → statement M
 pw-circle-spec =

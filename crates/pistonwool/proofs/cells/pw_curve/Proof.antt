@@ -1,5 +1,7 @@
 -- `pistonwool::cells::pw_curve` meets its contract.
+use mathlib.Core.Path.{_≡_, ap, _∙_}
 use mathlib.Core.List.{List, [], _∷_}
+use Prim.Native.Nat.{ℕ}
 use denote.Ref.{now}
 use lib.ListN.{length}
 use Rattle.sheet.specs.Reply.{Answer}
@@ -33,11 +35,11 @@ returns c =
     let p = cell-back (a .x0) (a .y0) (f .x0) (f .y0) in
     let q = cell-back (a .x1) (a .y1) (f .x1) (f .y1) in
     let r = cell-back (a .x2) (a .y2) (f .x2) (f .y2) in
+    let e : _≡_ {A = List Cell} _ _ = λ i. p i ∷ q i ∷ r i ∷ [] in
     let answer : List Cell → Answer = λ ps. curveAnswer k n ps (a .s) in
-    let told = called .draw-curve .ensures in (
-      number-told answer _ _ (λ i. p i ∷ q i ∷ r i ∷ []) _ (told .0) _ (c .number-of-drawn .ensures),
-      left answer _ _ (λ i. p i ∷ q i ∷ r i ∷ []) (λ (ps : List Cell). paint k (a .ink) (onCurve ps (a .s)) (now (a .sheet))) _ _ (told .1),
-    )
+    let drawn : List Cell → List ℕ = λ ps. paint k (a .ink) (onCurve ps (a .s)) (now (a .sheet)) in
+    let told = called .draw-curve .ensures in
+    (number-told _ _ (told .0 ∙ ap answer e) _ (c .number-of-drawn .ensures), left answer drawn _ _ e _ _ (told .1))
 
 pub pw-curve-spec : {M : Type 1} → statement M
 pw-curve-spec =

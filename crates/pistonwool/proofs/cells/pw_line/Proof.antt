@@ -1,4 +1,7 @@
 -- `pistonwool::cells::pw_line` meets its contract.
+use mathlib.Core.Path.{ap, _∙_}
+use Prim.Native.Nat.{ℕ}
+use mathlib.Core.List.{List}
 use denote.Ref.{now}
 use lib.ListN.{length}
 use Rattle.sheet.specs.Reply.{Answer}
@@ -7,7 +10,7 @@ use Rattle.sheet.specs.declared.Cell.{Cell}
 use Rattle.line.specs.Rule.{onLine}
 use Rattle.line.specs.Draw.{lineAnswer}
 use Rattle.pistonwool.specs.Told.{shapeOf}
-use Rattle.pistonwool.proofs.Told.{cell-back, left, number-told, value-told}
+use Rattle.pistonwool.proofs.Told.{cell-back, both, left, number-told, value-told}
 use borrow.Author.Needs.{needs}
 use Rattle.pistonwool.proofs.cells.pw_line.Statement.{statement}
 use Rattle.pistonwool.proofs.cells.pw_line.Tie as tie
@@ -29,17 +32,13 @@ returns c =
     let f = start .fits in
     let k = shapeOf (a .width) (a .height) in
     let n = length (now (a .sheet)) in
-    let p = cell-back (a .x0) (a .y0) (f .x0) (f .y0) in
-    let q = cell-back (a .x1) (a .y1) (f .x1) (f .y1) in
+    let e = both (cell-back (a .x0) (a .y0) (f .x0) (f .y0)) (cell-back (a .x1) (a .y1) (f .x1) (f .y1)) in
     let answer : Cell × Cell → Answer = λ l. lineAnswer k n (l .0) (l .1) in
+    let drawn : Cell × Cell → List ℕ = λ l. paint k (a .ink) (onLine (l .0) (l .1)) (now (a .sheet)) in
     let told = called .draw-line .ensures in
-    let said = c .number-of-counted .ensures in (
-      number-told answer _ _ (λ i. (p i, q i)) _ (told .0) _ (said .0),
-      (
-        value-told answer _ _ (λ i. (p i, q i)) _ (told .0) _ _ (said .1),
-        left answer _ _ (λ i. (p i, q i)) (λ (l : Cell × Cell). paint k (a .ink) (onLine (l .0) (l .1)) (now (a .sheet))) _ _ (told .1),
-      ),
-    )
+    let said = c .number-of-counted .ensures in
+    let t = told .0 ∙ ap answer e in
+    (number-told _ _ t _ (said .0), (value-told _ _ t _ _ (said .1), left answer drawn _ _ e _ _ (told .1)))
 
 pub pw-line-spec : {M : Type 1} → statement M
 pw-line-spec =

@@ -1,10 +1,13 @@
 -- `pistonwool::cells::pw_list` meets its contract.
+use mathlib.Core.Path.{ap, _∙_}
+use mathlib.Core.List.{List}
+use lib.IntN.{ℤ}
 use denote.Ref.{now}
 use lib.ListN.{length}
 use Rattle.sheet.specs.Reply.{Answer}
 use Rattle.sheet.specs.declared.Cell.{Cell}
 use Rattle.line.specs.Listing.{listAnswer, listedOver}
-use Rattle.pistonwool.proofs.Told.{cell-back, left, number-told, value-told}
+use Rattle.pistonwool.proofs.Told.{cell-back, both, left, number-told, value-told}
 use borrow.Author.Needs.{needs}
 use Rattle.pistonwool.proofs.cells.pw_list.Statement.{statement}
 use Rattle.pistonwool.proofs.cells.pw_list.Tie as tie
@@ -27,20 +30,14 @@ returns c =
     let start = called .before .before .before in
     let a = start .args in
     let f = start .fits in
-    let p = cell-back (a .x0) (a .y0) (f .x0) (f .y0) in
-    let q = cell-back (a .x1) (a .y1) (f .x1) (f .y1) in
+    let e = both (cell-back (a .x0) (a .y0) (f .x0) (f .y0)) (cell-back (a .x1) (a .y1) (f .x1) (f .y1)) in
     let answer : Cell × Cell → Answer = λ l. listAnswer (length (now (a .xs))) (length (now (a .ys))) (l .0) (l .1) in
+    let xs : Cell × Cell → List ℤ = λ l. listedOver (λ (d : Cell). d .x) (l .0) (l .1) (now (a .xs)) in
+    let ys : Cell × Cell → List ℤ = λ l. listedOver (λ (d : Cell). d .y) (l .0) (l .1) (now (a .ys)) in
     let told = called .list-line .ensures in
-    let said = c .number-of-counted .ensures in (
-      number-told answer _ _ (λ i. (p i, q i)) _ (told .0) _ (said .0),
-      (
-        value-told answer _ _ (λ i. (p i, q i)) _ (told .0) _ _ (said .1),
-        (
-          left answer _ _ (λ i. (p i, q i)) (λ (l : Cell × Cell). listedOver (λ (d : Cell). d .x) (l .0) (l .1) (now (a .xs))) _ _ (told .1 .0),
-          left answer _ _ (λ i. (p i, q i)) (λ (l : Cell × Cell). listedOver (λ (d : Cell). d .y) (l .0) (l .1) (now (a .ys))) _ _ (told .1 .1),
-        ),
-      ),
-    )
+    let said = c .number-of-counted .ensures in
+    let t = told .0 ∙ ap answer e in
+    (number-told _ _ t _ (said .0), (value-told _ _ t _ _ (said .1), (left answer xs _ _ e _ _ (told .1 .0), left answer ys _ _ e _ _ (told .1 .1))))
 
 pub pw-list-spec : {M : Type 1} → statement M
 pw-list-spec =

@@ -1,6 +1,4 @@
 -- `pistonwool::metres::pw_line_metres` meets its contract.
-use mathlib.Core.Path.{refl}
-use Rattle.sheet.specs.Reply.{Answer}
 use Rattle.pistonwool.proofs.Told.{number-told, value-told}
 use borrow.Author.Needs.{needs}
 use Rattle.pistonwool.proofs.metres.pw_line_metres.Statement.{statement}
@@ -21,7 +19,8 @@ same-length c = search needs
 returns : tie.Need-returns
 returns c =
     let told = c .before .before .before .before .before .draw-metres .ensures in
-    (number-told (λ (x : Answer). x) _ _ refl _ (told .0) _ (c .number-of-shown .ensures), (value-told (λ (x : Answer). x) _ _ refl _ (told .0) _ _ (c .before .cells-of-shown .ensures), told .1))
+    let cells = c .before .cells-of-shown .ensures in
+    (number-told _ _ (told .0) _ (c .number-of-shown .ensures), (value-told _ _ (told .0) _ _ cells, told .1))
 
 pub pw-line-metres-spec : {M : Type 1} → statement M
 pw-line-metres-spec =
