@@ -1,0 +1,90 @@
+// Figures in metres.
+ghost use mathlib.Core.Path.{_≡_};
+ghost use lib.ListN.{length};
+ghost use Rattle.sheet.specs.Sheet.{paint};
+ghost use Rattle.sheet.specs.Reply.{settled};
+ghost use Rattle.survey.specs.declared.Metres.the-variants as metres;
+ghost use Rattle.drawing.specs.Metres.{metresAnswer, onMetres};
+ghost use Rattle.pistonwool.specs.Told.{firstValue, shapeOf, surveyOf};
+use crate::cells_of_shown;
+use crate::number_of_shown;
+use sheet::Shape;
+use survey::Metres;
+use survey::Survey;
+
+// Draws a line; its number of cells on the sheet goes to cells, unless it is refused.
+#[no_mangle]
+pub extern "C" fn pw_line_metres(
+    sheet: &mut [u8],
+    width: u32,
+    height: u32,
+    ink: u8,
+    east: f64,
+    north: f64,
+    size: f64,
+    x0: f64,
+    y0: f64,
+    x1: f64,
+    y1: f64,
+    cells: &mut u32,
+) -> u32
+    ensures { λ d. ⌜ d ≡ metresAnswer (shapeOf width height) (length (now (sheet .entry))) (surveyOf east north size) (metres.Line x0 y0 x1 y1) .number ⌝ }
+    ensures { λ d. ⌜ now (cells .exit) ≡ firstValue (metresAnswer (shapeOf width height) (length (now (sheet .entry))) (surveyOf east north size) (metres.Line x0 y0 x1 y1)) (now (cells .entry)) ⌝ }
+    ensures { λ d. ⌜ now (sheet .exit) ≡ settled (metresAnswer (shapeOf width height) (length (now (sheet .entry))) (surveyOf east north size) (metres.Line x0 y0 x1 y1)) (paint (shapeOf width height) ink (onMetres (surveyOf east north size) (metres.Line x0 y0 x1 y1)) (now (sheet .entry))) (now (sheet .entry)) ⌝ }
+{
+    let shape = Shape { width, height };
+    let survey = Survey { east, north, size };
+    let figure = Metres::Line(x0, y0, x1, y1);
+    let reply = drawing::draw_metres(sheet, shape, ink, survey, figure);
+    cells_of_shown(reply, cells);
+    number_of_shown(reply)
+}
+
+// Draws a circle.
+#[no_mangle]
+pub extern "C" fn pw_circle_metres(
+    sheet: &mut [u8],
+    width: u32,
+    height: u32,
+    ink: u8,
+    east: f64,
+    north: f64,
+    size: f64,
+    x: f64,
+    y: f64,
+    r: f64,
+) -> u32
+    ensures { λ d. ⌜ d ≡ metresAnswer (shapeOf width height) (length (now (sheet .entry))) (surveyOf east north size) (metres.Circle x y r) .number ⌝ }
+    ensures { λ d. ⌜ now (sheet .exit) ≡ settled (metresAnswer (shapeOf width height) (length (now (sheet .entry))) (surveyOf east north size) (metres.Circle x y r)) (paint (shapeOf width height) ink (onMetres (surveyOf east north size) (metres.Circle x y r)) (now (sheet .entry))) (now (sheet .entry)) ⌝ }
+{
+    let shape = Shape { width, height };
+    let survey = Survey { east, north, size };
+    let figure = Metres::Circle(x, y, r);
+    let reply = drawing::draw_metres(sheet, shape, ink, survey, figure);
+    number_of_shown(reply)
+}
+
+// Draws an ellipse.
+#[no_mangle]
+pub extern "C" fn pw_ellipse_metres(
+    sheet: &mut [u8],
+    width: u32,
+    height: u32,
+    ink: u8,
+    east: f64,
+    north: f64,
+    size: f64,
+    x: f64,
+    y: f64,
+    a: f64,
+    b: f64,
+) -> u32
+    ensures { λ d. ⌜ d ≡ metresAnswer (shapeOf width height) (length (now (sheet .entry))) (surveyOf east north size) (metres.Ellipse x y a b) .number ⌝ }
+    ensures { λ d. ⌜ now (sheet .exit) ≡ settled (metresAnswer (shapeOf width height) (length (now (sheet .entry))) (surveyOf east north size) (metres.Ellipse x y a b)) (paint (shapeOf width height) ink (onMetres (surveyOf east north size) (metres.Ellipse x y a b)) (now (sheet .entry))) (now (sheet .entry)) ⌝ }
+{
+    let shape = Shape { width, height };
+    let survey = Survey { east, north, size };
+    let figure = Metres::Ellipse(x, y, a, b);
+    let reply = drawing::draw_metres(sheet, shape, ink, survey, figure);
+    number_of_shown(reply)
+}

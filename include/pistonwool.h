@@ -1,0 +1,90 @@
+/* Pistonwool: drawing on a sheet of cells, for C and C++.
+ *
+ * A sheet is width x height bytes, row after row: cell (x, y) is byte y * width + x.
+ * Limits: width and height 1 to 4,096; coordinates -16,384 to 16,383; radius 0 to 16,383; semi-axes 1 to 16,383; s 0 to 6.
+ * Drawing sets each of a figure's cells that lies on the sheet to the ink and leaves every other byte as it was.
+ * Every function answers a number of enum pw_reply. Any number other than PW_DONE is a refusal; a refusal leaves every
+ * byte and every number that was lent as it was, but for the offset that pw_file tells.
+ *
+ * Pointers must not be null, must point to as many elements as the length after them says, and must not overlap. */
+#ifndef PISTONWOOL_H
+#define PISTONWOOL_H
+
+#include <stddef.h>
+#include <stdint.h>
+
+#ifdef __cplusplus
+extern "C" {
+#endif
+
+enum pw_reply {
+    /* done */
+    PW_DONE = 0,
+    /* a sheet size is outside its limits, or the slice length differs from width x height */
+    PW_SIZE = 1,
+    /* a coordinate, or a joined point of a curve, is outside its limits */
+    PW_COORDINATE = 2,
+    /* a radius or semi-axis is outside its limits */
+    PW_RADIUS = 3,
+    /* s is above 6 */
+    PW_PIECES = 4,
+    /* either lent list has fewer places than the line has cells */
+    PW_ROOM = 5,
+    /* a survey's origin is not finite, or its cell size is not finite or not above zero */
+    PW_SURVEY = 6,
+    /* a position or length in metres has no cell in -16,384 to 16,383 */
+    PW_NO_CELL = 7,
+    /* bytes are left, but fewer than a record needs (only 1, or under its length after the 2 of the length) */
+    PW_SHORT = 8,
+    /* unknown record kind */
+    PW_KIND = 9,
+    /* record length under 2, or not the length of its kind */
+    PW_LENGTH = 10
+};
+
+/* Draws the line from (x0, y0) to (x1, y1). *cells is then its number of cells on the sheet. */
+uint32_t pw_line(uint8_t *sheet, size_t len, uint32_t width, uint32_t height, uint8_t ink,
+                 int32_t x0, int32_t y0, int32_t x1, int32_t y1, uint32_t *cells);
+
+/* Draws the circle of radius r about (x, y). */
+uint32_t pw_circle(uint8_t *sheet, size_t len, uint32_t width, uint32_t height, uint8_t ink,
+                   int32_t x, int32_t y, uint32_t r);
+
+/* Draws the ellipse of semi-axes a along x and b along y about (x, y). */
+uint32_t pw_ellipse(uint8_t *sheet, size_t len, uint32_t width, uint32_t height, uint8_t ink,
+                    int32_t x, int32_t y, uint32_t a, uint32_t b);
+
+/* Draws the quadratic Bezier curve with these control points, split into 2^s pieces. */
+uint32_t pw_curve(uint8_t *sheet, size_t len, uint32_t width, uint32_t height, uint8_t ink,
+                  int32_t x0, int32_t y0, int32_t x1, int32_t y1, int32_t x2, int32_t y2, uint32_t s);
+
+/* Lists the cells of the line from (x0, y0) to (x1, y1) in that order, x into xs and y into ys. *cells is then how many
+ * they are; places after the last keep what they held. */
+uint32_t pw_list(int32_t *xs, size_t nx, int32_t *ys, size_t ny,
+                 int32_t x0, int32_t y0, int32_t x1, int32_t y1, uint32_t *cells);
+
+/* Draws a record file of n bytes. *value is then its number of records, or the offset of what was refused (0 for a sheet
+ * that was). A file that is refused draws nothing. */
+uint32_t pw_file(uint8_t *sheet, size_t len, uint32_t width, uint32_t height,
+                 const uint8_t *file, size_t n, uint64_t *value);
+
+/* The same figures in metres, by a survey: the origins east and north, and the size of a cell. */
+
+/* Draws the line from (x0, y0) to (x1, y1). *cells is then its number of cells on the sheet. */
+uint32_t pw_line_metres(uint8_t *sheet, size_t len, uint32_t width, uint32_t height, uint8_t ink,
+                        double east, double north, double size,
+                        double x0, double y0, double x1, double y1, uint32_t *cells);
+
+/* Draws the circle of radius r about (x, y). */
+uint32_t pw_circle_metres(uint8_t *sheet, size_t len, uint32_t width, uint32_t height, uint8_t ink,
+                          double east, double north, double size, double x, double y, double r);
+
+/* Draws the ellipse of semi-axes a along x and b along y about (x, y). */
+uint32_t pw_ellipse_metres(uint8_t *sheet, size_t len, uint32_t width, uint32_t height, uint8_t ink,
+                           double east, double north, double size, double x, double y, double a, double b);
+
+#ifdef __cplusplus
+}
+#endif
+
+#endif
