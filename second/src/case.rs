@@ -36,11 +36,11 @@ pub const MOST_PLACES: usize = 40_000;
 impl Case {
     pub fn figure(seed: u64) -> Case {
         let mut random = Random(seed);
-        let job = match random.next() % 9 {
+        let job = match random.number() % 9 {
             0 => list(&mut random),
             kind => {
                 let size = size(&mut random);
-                let ink = random.next() as u8;
+                let ink = random.number() as u8;
                 match kind {
                     1 | 2 => Job::Cells(size, ink, line(&mut random, size)),
                     3 => Job::Cells(size, ink, circle(&mut random, size)),
@@ -50,21 +50,21 @@ impl Case {
                 }
             }
         };
-        Case { fill: random.next(), job }
+        Case { fill: random.number(), job }
     }
 
     pub fn file(seed: u64) -> Case {
         let mut random = Random(seed);
         let size = size(&mut random);
         let bytes = file(&mut random, size);
-        Case { fill: random.next(), job: Job::File(size, bytes) }
+        Case { fill: random.number(), job: Job::File(size, bytes) }
     }
 }
 
 fn size(random: &mut Random) -> Size {
     let most = random.one_of(&[4, 16, 16, 64, 64]);
     let (mut width, mut height) = (random.within(1, most), random.within(1, most));
-    match random.next() % 4000 {
+    match random.number() % 4000 {
         0 => (width, height) = (random.within(1, 4096), random.within(1, 4096)),
         1 => (width, height) = (4096, 4096),
         2..100 => width = random.one_of(&[4096, 4095, 1000, 300]),
@@ -74,7 +74,7 @@ fn size(random: &mut Random) -> Size {
     let mut len = (width * height) as usize;
     if random.once_in(40) {
         let strange = random.one_of(&[0, 4097, 5000, 65_536, i64::from(i32::MAX), i64::from(u32::MAX)]);
-        match random.next() % 3 {
+        match random.number() % 3 {
             0 => width = strange,
             1 => height = strange,
             _ => (width, height) = (strange, strange),
@@ -95,7 +95,7 @@ fn size(random: &mut Random) -> Size {
 /// A coordinate on or near a side of this length, or far from it, or beyond the limits.
 fn coordinate(random: &mut Random, side: u32) -> i32 {
     let side = i64::from(side.clamp(1, 4096));
-    let chosen = match random.next() % 64 {
+    let chosen = match random.number() % 64 {
         0 => {
             random.one_of(&[16_384, -16_385, 16_385, 32_767, -32_768, 49_152, i64::from(i32::MAX), i64::from(i32::MIN)])
         }
@@ -111,7 +111,7 @@ fn coordinate(random: &mut Random, side: u32) -> i32 {
 /// A radius or semi-axis; often one that brings a ring's edge onto the sheet from this far away.
 fn radius(random: &mut Random, side: u32, centre: i32) -> u32 {
     let side = i64::from(side.clamp(1, 4096));
-    let chosen = match random.next() % 64 {
+    let chosen = match random.number() % 64 {
         0 => random.one_of(&[16_384, 16_385, 32_768, 65_535, 65_536, 70_000, i64::from(u32::MAX), 1 << 31]),
         1 => random.within(0, 70_000),
         2 => random.one_of(&[16_383, 16_382]),
@@ -132,7 +132,7 @@ fn point(random: &mut Random, size: Size) -> [i32; 2] {
 
 fn line(random: &mut Random, size: Size) -> Cells {
     let ([x0, y0], [mut x1, mut y1]) = (point(random, size), point(random, size));
-    match random.next() % 16 {
+    match random.number() % 16 {
         0 => (x1, y1) = (x0, y0),
         1 => y1 = y0,
         2 => x1 = x0,
@@ -159,7 +159,7 @@ fn curve(random: &mut Random, size: Size) -> Cells {
 }
 
 fn pieces(random: &mut Random) -> u32 {
-    match random.next() % 32 {
+    match random.number() % 32 {
         0 => random.within(7, 255) as u32,
         1 => random.one_of(&[7, 8, 31, 32, 63, 64, 255]),
         _ => random.within(0, 6) as u32,
@@ -171,7 +171,7 @@ fn list(random: &mut Random) -> Job {
     let Cells::Line(ends) = line(random, size) else { unreachable!() };
     let [x0, y0, x1, y1] = ends;
     let cells = 1 + x0.abs_diff(x1).max(y0.abs_diff(y1)).min(36_000) as usize;
-    let places = [(); 2].map(|()| match random.next() % 12 {
+    let places = [(); 2].map(|()| match random.number() % 12 {
         0 => cells - 1,
         1 => random.within(0, cells as i64) as usize,
         2..6 => cells,
@@ -183,13 +183,13 @@ fn list(random: &mut Random) -> Job {
 const STRANGE: [f64; 9] = [f64::NAN, f64::INFINITY, f64::NEG_INFINITY, -0.0, 0.0, f64::MAX, f64::MIN, 5e-324, -1e-310];
 
 fn in_metres(random: &mut Random, size: Size, ink: u8, kind: u64) -> Job {
-    let mut origin = || match random.next() % 32 {
+    let mut origin = || match random.number() % 32 {
         0 => random.one_of(&STRANGE),
         1..8 => random.one_of(&[0.0, -0.0, 1000.0, 1e9, -1e15, 1e-300]),
         _ => random.within(-1 << 40, 1 << 40) as f64 / random.one_of(&[1.0, 1024.0, 1000.0, 1e6]),
     };
     let (east, north) = (origin(), origin());
-    let cell_size = match random.next() % 32 {
+    let cell_size = match random.number() % 32 {
         0 => random.one_of(&STRANGE),
         1 => random.one_of(&[-1.0, -25.0, 1e300, 1e-300, 1e-320, 1e17, 1e-9]),
         2..12 => random.one_of(&[25.0, 1.0, 0.1, 0.3, 1.0 / 3.0, 1e-3]),
@@ -218,14 +218,22 @@ fn in_metres(random: &mut Random, size: Size, ink: u8, kind: u64) -> Job {
 /// A position in a cell: at its lower edge, next to that, or anywhere in it.
 fn position(random: &mut Random, origin: f64, size: f64, cell: i32) -> f64 {
     let edge = origin + f64::from(cell) * size;
-    match random.next() % 16 {
+    match random.number() % 16 {
         0 if random.once_in(4) => random.one_of(&STRANGE),
         0 => origin,
         1..4 => edge,
-        4 | 5 => edge.next_up(),
-        6 | 7 => edge.next_down(),
-        _ => edge + size * (random.next() % 1_000_000) as f64 * 1e-6,
+        4 | 5 => beside(edge, 1),
+        6 | 7 => beside(edge, -1),
+        _ => edge + size * (random.number() % 1_000_000) as f64 * 1e-6,
     }
+}
+
+/// The next float away from zero, or towards it.
+fn beside(edge: f64, step: i64) -> f64 {
+    if edge == 0.0 {
+        return 5e-324 * step as f64;
+    }
+    f64::from_bits(edge.to_bits().wrapping_add_signed(step))
 }
 
 fn file(random: &mut Random, size: Size) -> Vec<u8> {
@@ -243,7 +251,7 @@ fn file(random: &mut Random, size: Size) -> Vec<u8> {
 }
 
 fn record(random: &mut Random, size: Size, tame: bool, bytes: &mut Vec<u8>) {
-    let mut figure = match random.next() % 4 {
+    let mut figure = match random.number() % 4 {
         0 => line(random, size),
         1 => circle(random, size),
         2 => ellipse(random, size),
@@ -262,18 +270,18 @@ fn record(random: &mut Random, size: Size, tame: bool, bytes: &mut Vec<u8>) {
     let length = 3 + 2 * numbers.len() + usize::from(s.is_some());
     bytes.extend((length as u16).to_le_bytes());
     bytes.extend(kind.to_le_bytes());
-    bytes.push(random.next() as u8);
+    bytes.push(random.number() as u8);
     bytes.extend(numbers.iter().flat_map(|&number| (number as u16).to_le_bytes()));
     bytes.extend(s.map(|s| s as u8));
 }
 
 fn damage(random: &mut Random, bytes: &mut Vec<u8>) {
-    let at = random.next() as usize % (bytes.len() + 1);
-    match random.next() % 8 {
+    let at = random.number() as usize % (bytes.len() + 1);
+    match random.number() % 8 {
         0 => bytes.truncate(at),
-        1 => bytes.insert(at, random.next() as u8),
+        1 => bytes.insert(at, random.number() as u8),
         2 if at < bytes.len() => drop(bytes.remove(at)),
-        3 => bytes.push(random.next() as u8),
+        3 => bytes.push(random.number() as u8),
         // small numbers, as lengths and kinds are
         4 | 5 if at < bytes.len() => bytes[at] = random.within(0, 17) as u8,
         6 if at < bytes.len() => bytes[at] ^= 1 << random.within(0, 7),
@@ -283,6 +291,23 @@ fn damage(random: &mut Random, bytes: &mut Vec<u8>) {
         }
         // a record without a payload
         _ => bytes.extend([random.within(0, 3) as u8, 0, random.within(0, 5) as u8, 0]),
+    }
+}
+
+impl Job {
+    /// The export's name after its pw_.
+    pub fn name(&self) -> &'static str {
+        match self {
+            Job::Cells(_, _, Cells::Line(_)) => "line",
+            Job::Cells(_, _, Cells::Circle(..)) => "circle",
+            Job::Cells(_, _, Cells::Ellipse(..)) => "ellipse",
+            Job::Cells(_, _, Cells::Curve(..)) => "curve",
+            Job::Metres(_, _, _, Metres::Line(_)) => "line_metres",
+            Job::Metres(_, _, _, Metres::Circle(_)) => "circle_metres",
+            Job::Metres(_, _, _, Metres::Ellipse(_)) => "ellipse_metres",
+            Job::List(..) => "list",
+            Job::File(..) => "file",
+        }
     }
 }
 
@@ -298,27 +323,29 @@ fn words<T: fmt::Debug>(numbers: &[T]) -> String {
 
 impl fmt::Display for Case {
     fn fmt(&self, to: &mut fmt::Formatter) -> fmt::Result {
-        let fill = self.fill;
+        write!(to, "{} {}", self.job.name(), self.fill)?;
         match &self.job {
-            Job::Cells(size, ink, figure) => match figure {
-                Cells::Line(ends) => write!(to, "line {fill} {size} {ink}{}", words(ends)),
-                Cells::Circle(centre, r) => write!(to, "circle {fill} {size} {ink}{} {r}", words(centre)),
-                Cells::Ellipse(centre, a, b) => write!(to, "ellipse {fill} {size} {ink}{} {a} {b}", words(centre)),
-                Cells::Curve(points, s) => write!(to, "curve {fill} {size} {ink}{} {s}", words(points)),
-            },
-            Job::Metres(size, ink, survey, figure) => {
-                let (name, fields) = match figure {
-                    Metres::Line(fields) => ("line_metres", words(fields)),
-                    Metres::Circle(fields) => ("circle_metres", words(fields)),
-                    Metres::Ellipse(fields) => ("ellipse_metres", words(fields)),
-                };
-                let survey = words(&[survey.east, survey.north, survey.size]);
-                write!(to, "{name} {fill} {size} {ink}{survey}{fields}")
+            Job::Cells(size, ink, figure) => {
+                write!(to, " {size} {ink}")?;
+                match figure {
+                    Cells::Line(ends) => write!(to, "{}", words(ends)),
+                    Cells::Circle(centre, r) => write!(to, "{} {r}", words(centre)),
+                    Cells::Ellipse(centre, a, b) => write!(to, "{} {a} {b}", words(centre)),
+                    Cells::Curve(points, s) => write!(to, "{} {s}", words(points)),
+                }
             }
-            Job::List([nx, ny], ends) => write!(to, "list {fill} {nx} {ny}{}", words(ends)),
+            Job::Metres(size, ink, survey, figure) => {
+                let survey = words(&[survey.east, survey.north, survey.size]);
+                let fields = match figure {
+                    Metres::Circle(fields) => words(fields),
+                    Metres::Line(fields) | Metres::Ellipse(fields) => words(fields),
+                };
+                write!(to, " {size} {ink}{survey}{fields}")
+            }
+            Job::List([nx, ny], ends) => write!(to, " {nx} {ny}{}", words(ends)),
             Job::File(size, bytes) => {
                 let bytes: String = bytes.iter().map(|byte| format!("{byte:02x}")).collect();
-                write!(to, "file {fill} {size} {bytes}")
+                write!(to, " {size} {bytes}")
             }
         }
     }

@@ -1,4 +1,4 @@
-//! Buffers between two pages that must not be touched.
+//! Buffers between pages that must not be touched.
 use std::ffi::c_void;
 
 extern "C" {
@@ -13,15 +13,17 @@ const PRIVATE_AND_EMPTY: i32 = 0x02 | 0x20;
 
 /// No page of the machines at hand is larger.
 const PAGE: usize = 65_536;
+/// As many bytes as the largest sheet has, so that a wrong row is not past the guard.
+const GUARD: usize = 256 * PAGE;
 
-/// Which of the two guard pages a buffer touches.
+/// Which of the two guards a buffer touches.
 #[derive(Clone, Copy, Debug, PartialEq)]
 pub enum Against {
     Before,
     After,
 }
 
-/// Room for a buffer, with a guard page on either side.
+/// Room for a buffer, with a guard on either side.
 pub struct Guarded {
     start: *mut u8,
     room: usize,
@@ -32,15 +34,15 @@ impl Guarded {
         let room = bytes.next_multiple_of(PAGE).max(PAGE);
         // SAFETY: a new mapping, of which only the middle may be touched.
         unsafe {
-            let whole = mmap(std::ptr::null_mut(), room + 2 * PAGE, NOTHING, PRIVATE_AND_EMPTY, -1, 0);
+            let whole = mmap(std::ptr::null_mut(), room + 2 * GUARD, NOTHING, PRIVATE_AND_EMPTY, -1, 0);
             assert!(whole as isize != -1, "no memory for {room} bytes");
-            let start = whole.cast::<u8>().add(PAGE);
+            let start = whole.cast::<u8>().add(GUARD);
             assert_eq!(mprotect(start.cast(), room, READ_AND_WRITE), 0, "pages cannot be opened");
             Guarded { start, room }
         }
     }
 
-    /// A buffer of this many numbers that touches one of the guard pages.
+    /// A buffer of this many numbers that touches one of the guards.
     pub fn lend<T: Copy + Plain>(&mut self, count: usize, against: Against) -> &mut [T] {
         let bytes = count * size_of::<T>();
         assert!(bytes <= self.room);
@@ -54,7 +56,7 @@ impl Guarded {
 impl Drop for Guarded {
     fn drop(&mut self) {
         // SAFETY: the mapping is this one's own, and what was lent has ended.
-        unsafe { munmap(self.start.sub(PAGE).cast(), self.room + 2 * PAGE) };
+        unsafe { munmap(self.start.sub(GUARD).cast(), self.room + 2 * GUARD) };
     }
 }
 

@@ -50,6 +50,8 @@ impl Sheet<'_> {
 pub struct Rules {
     /// The cells of a line, from the first named end to the second.
     pub line: fn(Cell, Cell) -> Vec<Cell>,
+    /// The cells of a line that are tried on a sheet of this width and height.
+    pub drawn: fn(&Rules, i64, i64, Cell, Cell) -> Vec<Cell>,
     /// The byte of a cell on a sheet of this width and height.
     pub place: fn(i64, i64, Cell) -> Option<usize>,
     /// Whether a circle of radius r has the cell (x, y) from its centre.
@@ -60,6 +62,8 @@ pub struct Rules {
     pub floor: fn(i64, i64) -> i64,
     /// The cell of a float.
     pub cell: fn(f64) -> Option<i64>,
+    /// The number 2, 3 or 4 that refuses a figure.
+    pub refusal: fn(&Rules, &Figure) -> Option<u32>,
     /// Whether a file is read to its end before the first cell is written.
     pub reads_first: bool,
     /// Whether a refusal has the offset of its record.
@@ -70,11 +74,13 @@ impl Rules {
     pub fn document() -> Rules {
         Rules {
             line: line_cells,
+            drawn: |rules, _, _, from, to| (rules.line)(from, to),
             place,
             on_circle,
             on_ellipse,
             floor: i64::div_euclid,
             cell: crate::metres::cell,
+            refusal,
             reads_first: true,
             tells_offset: true,
         }
@@ -84,30 +90,16 @@ impl Rules {
         if !sheet.fits() {
             return Reply::refused(1);
         }
-        match self.refusal(figure) {
+        match (self.refusal)(self, figure) {
             Some(number) => Reply::refused(number),
             None => Reply::done(self.paint(sheet, ink, figure)),
-        }
-    }
-
-    /// The numbers 2, 3, 4 in this order.
-    pub fn refusal(&self, figure: &Figure) -> Option<u32> {
-        let strange = |points: &[Cell]| points.iter().any(|&(x, y)| !within(x) || !within(y));
-        match *figure {
-            Figure::Line(from, to) if strange(&[from, to]) => Some(2),
-            Figure::Circle(centre, _) | Figure::Ellipse(centre, _, _) if strange(&[centre]) => Some(2),
-            Figure::Curve(points, s) if strange(&points) || strange(&self.joined(points, s)) => Some(2),
-            Figure::Circle(_, r) if !(0..=MOST).contains(&r) => Some(3),
-            Figure::Ellipse(_, a, b) if [a, b].iter().any(|axis| !(1..=MOST).contains(axis)) => Some(3),
-            Figure::Curve(_, s) if s > 6 => Some(4),
-            _ => None,
         }
     }
 
     /// Inks the figure's cells on the sheet; of a line, their number.
     pub fn paint(&self, sheet: &mut Sheet, ink: u8, figure: &Figure) -> Option<u64> {
         match *figure {
-            Figure::Line(from, to) => return Some(self.ink_cells(sheet, ink, (self.line)(from, to))),
+            Figure::Line(from, to) => return Some(self.ink_line(sheet, ink, from, to)),
             Figure::Circle(centre, r) => {
                 self.ink_ring(sheet, ink, centre, (r, r), |from_centre| (self.on_circle)(r, from_centre));
             }
@@ -116,7 +108,7 @@ impl Rules {
             }
             Figure::Curve(points, s) => {
                 for pair in self.joined(points, s).windows(2) {
-                    self.ink_cells(sheet, ink, (self.line)(pair[0], pair[1]));
+                    self.ink_line(sheet, ink, pair[0], pair[1]);
                 }
             }
         }
@@ -136,9 +128,9 @@ impl Rules {
         (0..=n).map(|i| (at(i, p0.0, p1.0, p2.0), at(i, p0.1, p1.1, p2.1))).collect()
     }
 
-    fn ink_cells(&self, sheet: &mut Sheet, ink: u8, cells: Vec<Cell>) -> u64 {
+    fn ink_line(&self, sheet: &mut Sheet, ink: u8, from: Cell, to: Cell) -> u64 {
         let mut inked = 0;
-        for cell in cells {
+        for cell in (self.drawn)(self, sheet.width, sheet.height, from, to) {
             if let Some(place) = (self.place)(sheet.width, sheet.height, cell) {
                 sheet.bytes[place] = ink;
                 inked += 1;
@@ -160,7 +152,7 @@ impl Rules {
 
     /// Lists a line's cells: 2, then 5.
     pub fn list(&self, xs: &mut [i32], ys: &mut [i32], from: Cell, to: Cell) -> Reply {
-        if let Some(number) = self.refusal(&Figure::Line(from, to)) {
+        if let Some(number) = (self.refusal)(self, &Figure::Line(from, to)) {
             return Reply::refused(number);
         }
         let cells = (self.line)(from, to);
@@ -172,6 +164,20 @@ impl Rules {
             ys[i] = y as i32;
         }
         Reply::done(Some(cells.len() as u64))
+    }
+}
+
+/// The numbers 2, 3, 4 in this order.
+pub fn refusal(rules: &Rules, figure: &Figure) -> Option<u32> {
+    let strange = |points: &[Cell]| points.iter().any(|&(x, y)| !within(x) || !within(y));
+    match *figure {
+        Figure::Line(from, to) if strange(&[from, to]) => Some(2),
+        Figure::Circle(centre, _) | Figure::Ellipse(centre, _, _) if strange(&[centre]) => Some(2),
+        Figure::Curve(points, s) if strange(&points) || strange(&rules.joined(points, s)) => Some(2),
+        Figure::Circle(_, r) if !(0..=MOST).contains(&r) => Some(3),
+        Figure::Ellipse(_, a, b) if [a, b].iter().any(|axis| !(1..=MOST).contains(axis)) => Some(3),
+        Figure::Curve(_, s) if s > 6 => Some(4),
+        _ => None,
     }
 }
 
@@ -268,8 +274,8 @@ mod tests {
         let rules = Rules::document();
         assert_eq!(rules.joined([(0, 0), (2, 4), (4, 0)], 1), [(0, 0), (2, 2), (4, 0)]);
         assert_eq!(rules.joined([(-1, 0), (-1, -1), (0, 0)], 1), [(-1, 0), (-1, 0), (0, 0)]);
-        assert_eq!(rules.refusal(&Figure::Curve([(0, 0); 3], 7)), Some(4));
-        assert_eq!(rules.refusal(&Figure::Curve([(0, 0); 3], 6)), None);
-        assert_eq!(rules.refusal(&Figure::Line((0, 0), (16_384, 0))), Some(2));
+        assert_eq!(refusal(&rules, &Figure::Curve([(0, 0); 3], 7)), Some(4));
+        assert_eq!(refusal(&rules, &Figure::Curve([(0, 0); 3], 6)), None);
+        assert_eq!(refusal(&rules, &Figure::Line((0, 0), (16_384, 0))), Some(2));
     }
 }

@@ -35,15 +35,16 @@ impl Default for Bench {
 }
 
 impl Bench {
-    /// Draws a case both ways; the reply that both gave, or what differs.
-    pub fn compare(&mut self, rules: &Rules, case: &Case) -> Result<u32, String> {
+    /// Draws a case both ways: the reply that both gave and whether a sheet or list changed, or what differs.
+    pub fn compare(&mut self, rules: &Rules, case: &Case) -> Result<(u32, bool), String> {
         let before = Outcome::before(case);
         let mut expected = Outcome::before(case);
         expected.by_rules(rules, &case.job);
         for against in [Against::Before, Against::After] {
             self.by_library(&before, &expected, &case.job, against)?;
         }
-        Ok(expected.number)
+        let changed = expected.sheet != before.sheet || expected.lists != before.lists;
+        Ok((expected.number, changed))
     }
 
     fn by_library(&mut self, before: &Outcome, expected: &Outcome, job: &Job, against: Against) -> Result<(), String> {
@@ -107,7 +108,7 @@ impl Outcome {
         let mut random = Random(case.fill);
         // an export that tells its value in 32 bits is lent 32 bits
         let most = if matches!(case.job, Job::File(..)) { u64::MAX } else { u64::from(u32::MAX) };
-        let value = random.next() & most;
+        let value = random.number() & most;
         let (mut sheet, mut lists) = (Vec::new(), [Vec::new(), Vec::new()]);
         match &case.job {
             Job::Cells(size, ..) | Job::Metres(size, ..) | Job::File(size, _) => {
@@ -115,7 +116,7 @@ impl Outcome {
                 random.fill(&mut sheet);
             }
             Job::List(places, _) => {
-                lists = places.map(|count| (0..count).map(|_| random.next() as i32).collect());
+                lists = places.map(|count| (0..count).map(|_| random.number() as i32).collect());
             }
         }
         Outcome { number: 0, value, sheet, lists }

@@ -9,8 +9,10 @@ use second::rule::Rules;
 use second::run::Bench;
 use second::{random::Random, teeth};
 use std::cell::Cell;
+use std::collections::BTreeMap;
 use std::process::{Command, ExitCode};
 use std::sync::atomic::{AtomicU64, Ordering::Relaxed};
+use std::sync::Mutex;
 use std::time::Instant;
 
 /// How many differences are printed.
@@ -39,7 +41,7 @@ extern "C" fn touched_outside(_: i32) {
     std::process::exit(1);
 }
 
-fn compare(bench: &mut Bench, rules: &Rules, case: &Case) -> Result<u32, String> {
+fn compare(bench: &mut Bench, rules: &Rules, case: &Case) -> Result<(u32, bool), String> {
     AT.set(case);
     let compared = bench.compare(rules, case);
     AT.set(std::ptr::null());
@@ -48,38 +50,66 @@ fn compare(bench: &mut Bench, rules: &Rules, case: &Case) -> Result<u32, String>
 
 /// The ith case of a run: its own seed, whichever thread it falls to.
 fn case(make: Make, seed: u64, i: u64) -> Case {
-    make(Random(seed ^ i.wrapping_mul(0xd134_2543_de82_ef95)).next())
+    make(Random(seed ^ i.wrapping_mul(0xd134_2543_de82_ef95)).number())
+}
+
+/// How often each export gave each reply, and how often it changed a sheet or list.
+#[derive(Default)]
+struct Tally(BTreeMap<&'static str, ([u64; 11], u64)>);
+
+impl Tally {
+    fn add(&mut self, export: &'static str, (number, changed): (u32, bool)) {
+        let (replies, changes) = self.0.entry(export).or_default();
+        replies[number as usize] += 1;
+        *changes += u64::from(changed);
+    }
+
+    fn join(&mut self, other: &Tally) {
+        for (export, (replies, changes)) in &other.0 {
+            let mine = self.0.entry(export).or_default();
+            mine.0.iter_mut().zip(replies).for_each(|(sum, more)| *sum += more);
+            mine.1 += changes;
+        }
+    }
+
+    fn print(&self) {
+        for (export, (replies, changes)) in &self.0 {
+            let told = replies.iter().enumerate().filter(|&(_, &times)| times > 0);
+            let told: Vec<String> = told.map(|(number, times)| format!("{number}: {times}")).collect();
+            println!("  {export:14} changed something {changes} times; replies {}", told.join(", "));
+        }
+    }
 }
 
 /// Compares so many cases on all processors; whether there was no difference.
 fn run(name: &str, make: Make, count: u64, seed: u64) -> bool {
     let began = Instant::now();
     let (next, differences) = (AtomicU64::new(0), AtomicU64::new(0));
-    let replies = [const { AtomicU64::new(0) }; 11];
+    let tally = Mutex::new(Tally::default());
     let work = || {
         let mut bench = Bench::default();
+        let mut own = Tally::default();
         loop {
             let i = next.fetch_add(1, Relaxed);
             if i >= count || differences.load(Relaxed) >= SHOWN {
-                return;
+                break;
             }
             let case = case(make, seed, i);
             match compare(&mut bench, &Rules::document(), &case) {
-                Ok(number) => _ = replies[number as usize].fetch_add(1, Relaxed),
+                Ok(outcome) => own.add(case.job.name(), outcome),
                 Err(what) => {
                     differences.fetch_add(1, Relaxed);
                     println!("difference: {what}\n  compare --one \"{case}\"");
                 }
             }
         }
+        tally.lock().expect("no thread stops").join(&own);
     };
     let threads = std::thread::available_parallelism().map_or(1, usize::from);
     std::thread::scope(|scope| (0..threads).for_each(|_| _ = scope.spawn(work)));
     let differences = differences.into_inner();
     println!("{name}: {count} with seed {seed}, {differences} differences, {:.1} s", began.elapsed().as_secs_f64());
-    let told = replies.iter().map(|times| times.load(Relaxed)).enumerate().filter(|&(_, times)| times > 0);
-    let told: Vec<String> = told.map(|(number, times)| format!("{number}: {times}")).collect();
-    println!("  reply: times    {}", told.join("  "));
+    tally.into_inner().expect("no thread stops").print();
     differences == 0
 }
 
@@ -140,7 +170,7 @@ fn main() -> ExitCode {
                 let compared = compare(&mut Bench::default(), &Rules::document(), &case);
                 println!(
                     "{}",
-                    compared.as_ref().map_or_else(|what| format!("difference: {what}"), |n| format!("reply {n}"))
+                    compared.as_ref().map_or_else(|what| format!("difference: {what}"), |(n, _)| format!("reply {n}"))
                 );
                 count([compared.is_ok()])
             }
