@@ -108,22 +108,27 @@ fn coordinate(random: &mut Random, side: u32) -> i32 {
     chosen as i32
 }
 
-/// A radius or semi-axis; often one that brings a ring's edge onto the sheet from this far away.
-fn radius(random: &mut Random, side: u32, centre: i32) -> u32 {
+/// A radius or semi-axis of any size, for a sheet with this side.
+fn radius(random: &mut Random, side: u32) -> u32 {
     let side = i64::from(side.clamp(1, 4096));
-    let chosen = match random.number() % 64 {
+    let chosen = match random.number() % 32 {
         0 => random.one_of(&[16_384, 16_385, 32_768, 65_535, 65_536, 70_000, i64::from(u32::MAX), 1 << 31]),
         1 => random.within(0, 70_000),
         2 => random.one_of(&[16_383, 16_382]),
         3..6 => random.within(0, 16_383),
         6..12 => random.one_of(&[0, 1, 2, 3]),
-        12..24 => random.within(0, side),
-        _ => {
-            let far = random.within(0, side - 1).abs_diff(i64::from(centre)) as i64;
-            (far + random.within(-2, 2)).clamp(0, 70_000)
-        }
+        _ => random.within(0, side),
     };
     chosen as u32
+}
+
+/// How far a cell of the sheet, any of them, is from this one.
+fn to_the_sheet(random: &mut Random, size: Size, [x, y]: [i32; 2]) -> [f64; 2] {
+    let mut far = |side: u32, from: i32| {
+        let on = random.within(0, i64::from(side.clamp(1, 4096)) - 1);
+        on.abs_diff(i64::from(from)) as f64
+    };
+    [far(size.width, x), far(size.height, y)]
 }
 
 fn point(random: &mut Random, size: Size) -> [i32; 2] {
@@ -137,6 +142,15 @@ fn line(random: &mut Random, size: Size) -> Cells {
         1 => y1 = y0,
         2 => x1 = x0,
         3 => y1 = y0.wrapping_add(x1.wrapping_sub(x0)),
+        // through a cell of the sheet to as far behind it
+        4..8 => {
+            let mut behind = |from: i32, side: u32| {
+                let through = random.within(0, i64::from(side.clamp(1, 4096)) - 1);
+                let about = 2 * through - i64::from(from) + random.within(-3, 3);
+                about.clamp(-16_384, 16_383) as i32
+            };
+            (x1, y1) = (behind(x0, size.width), behind(y0, size.height));
+        }
         _ => {}
     }
     Cells::Line([x0, y0, x1, y1])
@@ -144,13 +158,22 @@ fn line(random: &mut Random, size: Size) -> Cells {
 
 fn circle(random: &mut Random, size: Size) -> Cells {
     let centre = point(random, size);
-    Cells::Circle(centre, radius(random, size.width, centre[0]))
+    if random.once_in(2) {
+        return Cells::Circle(centre, radius(random, size.width));
+    }
+    let [x, y] = to_the_sheet(random, size, centre);
+    Cells::Circle(centre, (x * x + y * y).sqrt() as u32)
 }
 
 fn ellipse(random: &mut Random, size: Size) -> Cells {
     let centre = point(random, size);
-    let a = radius(random, size.width, centre[0]);
-    Cells::Ellipse(centre, a, radius(random, size.height, centre[1]))
+    if random.once_in(2) {
+        return Cells::Ellipse(centre, radius(random, size.width), radius(random, size.height));
+    }
+    // the semi-axes for which x / a = part and y / b is what is left
+    let [x, y] = to_the_sheet(random, size, centre);
+    let part = random.within(1, 63) as f64 / 64.0;
+    Cells::Ellipse(centre, (x / part) as u32, (y / (1.0 - part * part).sqrt()) as u32)
 }
 
 fn curve(random: &mut Random, size: Size) -> Cells {
@@ -196,28 +219,33 @@ fn in_metres(random: &mut Random, size: Size, ink: u8, kind: u64) -> Job {
         _ => random.within(1, 1 << 40) as f64 / random.one_of(&[1e6, 1e9, 1e12]),
     };
     let survey = Survey { east, north, size: cell_size };
-    let circle = kind == 7;
-    let ([x0, y0], [x1, y1]) = (point(random, size), point(random, size));
-    let x0_metres = position(random, east, cell_size, x0);
-    let y0_metres = position(random, north, cell_size, y0);
-    let mut axis = |side: u32, centre: i32| {
-        let signed = radius(random, side, centre).min(70_000) as i32 * if random.once_in(32) { -1 } else { 1 };
-        position(random, 0.0, cell_size, signed)
+    let figure = match kind {
+        6 => line(random, size),
+        7 => circle(random, size),
+        _ => ellipse(random, size),
     };
-    let figure = if circle {
-        Metres::Circle([x0_metres, y0_metres, axis(size.width, x0)])
-    } else if kind == 8 {
-        Metres::Ellipse([x0_metres, y0_metres, axis(size.width, x0), axis(size.height, y0)])
-    } else {
-        let x1_metres = position(random, east, cell_size, x1);
-        Metres::Line([x0_metres, y0_metres, x1_metres, position(random, north, cell_size, y1)])
+    let mut metres = |origin: f64, cell: i64| position(random, origin, cell_size, cell);
+    let figure = match figure {
+        Cells::Line([x0, y0, x1, y1]) => {
+            let ends = [(east, x0), (north, y0), (east, x1), (north, y1)];
+            Metres::Line(ends.map(|(origin, cell)| metres(origin, cell.into())))
+        }
+        Cells::Circle([x, y], r) => {
+            Metres::Circle([metres(east, x.into()), metres(north, y.into()), metres(0.0, r.into())])
+        }
+        Cells::Ellipse([x, y], a, b) => {
+            let [x, y] = [metres(east, x.into()), metres(north, y.into())];
+            Metres::Ellipse([x, y, metres(0.0, a.into()), metres(0.0, b.into())])
+        }
+        Cells::Curve(..) => unreachable!("no curve is in metres"),
     };
     Job::Metres(size, ink, survey, figure)
 }
 
 /// A position in a cell: at its lower edge, next to that, or anywhere in it.
-fn position(random: &mut Random, origin: f64, size: f64, cell: i32) -> f64 {
-    let edge = origin + f64::from(cell) * size;
+fn position(random: &mut Random, origin: f64, size: f64, cell: i64) -> f64 {
+    let cell = if random.once_in(100) { -cell } else { cell };
+    let edge = origin + cell as f64 * size;
     match random.number() % 16 {
         0 if random.once_in(4) => random.one_of(&STRANGE),
         0 => origin,

@@ -1,117 +1,28 @@
 //! The proved library, as include/pistonwool.h declares it, behind functions that take slices.
 use crate::metres::{Metres, Survey};
 
+#[rustfmt::skip] // one function to a line or two, as the header has them
 mod declared {
     extern "C" {
-        #[rustfmt::skip]
-        pub fn pw_line(
-            sheet: *mut u8,
-            len: usize,
-            width: u32,
-            height: u32,
-            ink: u8,
-            x0: i32,
-            y0: i32,
-            x1: i32,
-            y1: i32,
-            cells: *mut u32,
-        ) -> u32;
-        #[rustfmt::skip]
-        pub fn pw_circle(sheet: *mut u8, len: usize, width: u32, height: u32, ink: u8, x: i32, y: i32, r: u32) -> u32;
-        #[rustfmt::skip]
-        pub fn pw_ellipse(
-            sheet: *mut u8,
-            len: usize,
-            width: u32,
-            height: u32,
-            ink: u8,
-            x: i32,
-            y: i32,
-            a: u32,
-            b: u32,
-        ) -> u32;
-        #[rustfmt::skip]
-        pub fn pw_curve(
-            sheet: *mut u8,
-            len: usize,
-            width: u32,
-            height: u32,
-            ink: u8,
-            x0: i32,
-            y0: i32,
-            x1: i32,
-            y1: i32,
-            x2: i32,
-            y2: i32,
-            s: u32,
-        ) -> u32;
-        #[rustfmt::skip]
-        pub fn pw_list(
-            xs: *mut i32,
-            nx: usize,
-            ys: *mut i32,
-            ny: usize,
-            x0: i32,
-            y0: i32,
-            x1: i32,
-            y1: i32,
-            cells: *mut u32,
-        ) -> u32;
-        #[rustfmt::skip]
-        pub fn pw_file(
-            sheet: *mut u8,
-            len: usize,
-            width: u32,
-            height: u32,
-            file: *const u8,
-            n: usize,
-            value: *mut u64,
-        ) -> u32;
-        #[rustfmt::skip]
-        pub fn pw_line_metres(
-            sheet: *mut u8,
-            len: usize,
-            width: u32,
-            height: u32,
-            ink: u8,
-            east: f64,
-            north: f64,
-            size: f64,
-            x0: f64,
-            y0: f64,
-            x1: f64,
-            y1: f64,
-            cells: *mut u32,
-        ) -> u32;
-        #[rustfmt::skip]
-        pub fn pw_circle_metres(
-            sheet: *mut u8,
-            len: usize,
-            width: u32,
-            height: u32,
-            ink: u8,
-            east: f64,
-            north: f64,
-            size: f64,
-            x: f64,
-            y: f64,
-            r: f64,
-        ) -> u32;
-        #[rustfmt::skip]
-        pub fn pw_ellipse_metres(
-            sheet: *mut u8,
-            len: usize,
-            width: u32,
-            height: u32,
-            ink: u8,
-            east: f64,
-            north: f64,
-            size: f64,
-            x: f64,
-            y: f64,
-            a: f64,
-            b: f64,
-        ) -> u32;
+        pub fn pw_line(sheet: *mut u8, len: usize, width: u32, height: u32, ink: u8,
+                       x0: i32, y0: i32, x1: i32, y1: i32, cells: *mut u32) -> u32;
+        pub fn pw_circle(sheet: *mut u8, len: usize, width: u32, height: u32, ink: u8,
+                         x: i32, y: i32, r: u32) -> u32;
+        pub fn pw_ellipse(sheet: *mut u8, len: usize, width: u32, height: u32, ink: u8,
+                          x: i32, y: i32, a: u32, b: u32) -> u32;
+        pub fn pw_curve(sheet: *mut u8, len: usize, width: u32, height: u32, ink: u8,
+                        x0: i32, y0: i32, x1: i32, y1: i32, x2: i32, y2: i32, s: u32) -> u32;
+        pub fn pw_list(xs: *mut i32, nx: usize, ys: *mut i32, ny: usize,
+                       x0: i32, y0: i32, x1: i32, y1: i32, cells: *mut u32) -> u32;
+        pub fn pw_file(sheet: *mut u8, len: usize, width: u32, height: u32,
+                       file: *const u8, n: usize, value: *mut u64) -> u32;
+        pub fn pw_line_metres(sheet: *mut u8, len: usize, width: u32, height: u32, ink: u8,
+                              east: f64, north: f64, size: f64,
+                              x0: f64, y0: f64, x1: f64, y1: f64, cells: *mut u32) -> u32;
+        pub fn pw_circle_metres(sheet: *mut u8, len: usize, width: u32, height: u32, ink: u8,
+                                east: f64, north: f64, size: f64, x: f64, y: f64, r: f64) -> u32;
+        pub fn pw_ellipse_metres(sheet: *mut u8, len: usize, width: u32, height: u32, ink: u8,
+                                 east: f64, north: f64, size: f64, x: f64, y: f64, a: f64, b: f64) -> u32;
     }
 }
 

@@ -120,7 +120,7 @@ fn caught(rules: &Rules, seed: u64) -> bool {
         [Case::figure, Case::file].into_iter().any(|make| {
             let case = case(make, seed, i);
             compare(&mut bench, rules, &case).is_err_and(|what| {
-                println!("  after {i} cases: {what}\n  compare --one \"{case}\"");
+                println!("  caught after {i} cases: {what}\n  {case}");
                 true
             })
         })
