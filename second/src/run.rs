@@ -7,7 +7,7 @@ use crate::rule::{Figure, Reply, Rules, Sheet};
 use std::fmt::Display;
 
 /// The room for everything that a case lends to the library.
-pub struct Bench {
+pub struct Room {
     sheet: Guarded,
     lists: [Guarded; 2],
     file: Guarded,
@@ -22,10 +22,10 @@ struct Outcome {
     lists: [Vec<i32>; 2],
 }
 
-impl Default for Bench {
-    fn default() -> Bench {
+impl Default for Room {
+    fn default() -> Room {
         let places = || Guarded::with_room(4 * MOST_PLACES);
-        Bench {
+        Room {
             sheet: Guarded::with_room(MOST_BYTES),
             lists: [places(), places()],
             file: Guarded::with_room(1 << 16),
@@ -34,7 +34,7 @@ impl Default for Bench {
     }
 }
 
-impl Bench {
+impl Room {
     /// Draws a case both ways: the reply that both gave and whether a sheet or list changed, or what differs.
     pub fn compare(&mut self, rules: &Rules, case: &Case) -> Result<(u32, bool), String> {
         let before = Outcome::before(case);
@@ -54,7 +54,7 @@ impl Bench {
         let (xs, ys) = (xs.lend::<i32>(before.lists[0].len(), against), ys.lend::<i32>(before.lists[1].len(), against));
         xs.copy_from_slice(&before.lists[0]);
         ys.copy_from_slice(&before.lists[1]);
-        let lent = |size: &Size| (size.width, size.height);
+        let sides = |size: &Size| (size.width, size.height);
         let mut short = |call: &mut dyn FnMut(&mut u32) -> u32| {
             let value = &mut self.value.lend::<u32>(1, against)[0];
             *value = before.value as u32;
@@ -62,17 +62,17 @@ impl Bench {
         };
         let (number, value) = match job {
             Job::Cells(size, ink, figure) => {
-                let (width, height) = lent(size);
+                let (width, height) = sides(size);
                 short(&mut |value| native::draw(Lent { bytes: sheet, width, height }, *ink, *figure, value))
             }
             Job::Metres(size, ink, survey, figure) => {
-                let (width, height) = lent(size);
+                let (width, height) = sides(size);
                 let draw = native::draw_metres;
                 short(&mut |value| draw(Lent { bytes: sheet, width, height }, *ink, *survey, *figure, value))
             }
             Job::List(_, ends) => short(&mut |value| native::list(xs, ys, *ends, value)),
             Job::File(size, bytes) => {
-                let (width, height) = lent(size);
+                let (width, height) = sides(size);
                 let file = self.file.lend::<u8>(bytes.len(), against);
                 file.copy_from_slice(bytes);
                 let value = &mut self.value.lend::<u64>(1, against)[0];

@@ -6,7 +6,7 @@
 use second::case::Case;
 use second::guard::{Against, Guarded};
 use second::rule::Rules;
-use second::run::Bench;
+use second::run::Room;
 use second::{random::Random, teeth};
 use std::cell::Cell;
 use std::collections::BTreeMap;
@@ -41,9 +41,9 @@ extern "C" fn touched_outside(_: i32) {
     std::process::exit(1);
 }
 
-fn compare(bench: &mut Bench, rules: &Rules, case: &Case) -> Result<(u32, bool), String> {
+fn compare(room: &mut Room, rules: &Rules, case: &Case) -> Result<(u32, bool), String> {
     AT.set(case);
-    let compared = bench.compare(rules, case);
+    let compared = room.compare(rules, case);
     AT.set(std::ptr::null());
     compared
 }
@@ -87,7 +87,7 @@ fn run(name: &str, make: Make, count: u64, seed: u64) -> bool {
     let (next, differences) = (AtomicU64::new(0), AtomicU64::new(0));
     let tally = Mutex::new(Tally::default());
     let work = || {
-        let mut bench = Bench::default();
+        let mut room = Room::default();
         let mut own = Tally::default();
         loop {
             let i = next.fetch_add(1, Relaxed);
@@ -95,7 +95,7 @@ fn run(name: &str, make: Make, count: u64, seed: u64) -> bool {
                 break;
             }
             let case = case(make, seed, i);
-            match compare(&mut bench, &Rules::document(), &case) {
+            match compare(&mut room, &Rules::document(), &case) {
                 Ok(outcome) => own.add(case.job.name(), outcome),
                 Err(what) => {
                     differences.fetch_add(1, Relaxed);
@@ -115,11 +115,11 @@ fn run(name: &str, make: Make, count: u64, seed: u64) -> bool {
 
 /// Whether a wrong program is caught on figures or on files.
 fn caught(rules: &Rules, seed: u64) -> bool {
-    let mut bench = Bench::default();
+    let mut room = Room::default();
     (0..PATIENCE).any(|i| {
         [Case::figure, Case::file].into_iter().any(|make| {
             let case = case(make, seed, i);
-            compare(&mut bench, rules, &case).is_err_and(|what| {
+            compare(&mut room, rules, &case).is_err_and(|what| {
                 println!("  caught after {i} cases: {what}\n  {case}");
                 true
             })
@@ -135,9 +135,9 @@ fn ends_by_touch(side: &str) -> bool {
 }
 
 fn touch(side: &str) {
-    let mut room = Guarded::with_room(1000);
+    let mut guarded = Guarded::with_room(1000);
     let before = side == "before";
-    let lent = room.lend::<u8>(1000, if before { Against::Before } else { Against::After });
+    let lent = guarded.lend::<u8>(1000, if before { Against::Before } else { Against::After });
     // SAFETY: none; this is to end the program.
     unsafe { lent.as_mut_ptr().offset(if before { -1 } else { 1000 }).write_volatile(1) };
 }
@@ -167,7 +167,7 @@ fn main() -> ExitCode {
                 ExitCode::from(2)
             }
             Ok(case) => {
-                let compared = compare(&mut Bench::default(), &Rules::document(), &case);
+                let compared = compare(&mut Room::default(), &Rules::document(), &case);
                 println!(
                     "{}",
                     compared.as_ref().map_or_else(|what| format!("difference: {what}"), |(n, _)| format!("reply {n}"))
