@@ -1,0 +1,206 @@
+//! Compares the proved library with the second drawing program on random figures and files.
+//!
+//!     compare [COUNT] [SEED]    COUNT figures and COUNT files
+//!     compare --one CASE        one case, as a difference prints it
+//!     compare --teeth           wrong second programs, each of which must be caught
+use second::case::Case;
+use second::guard::{Against, Guarded};
+use second::rule::Rules;
+use second::run::Room;
+use second::{random::Random, teeth};
+use std::cell::Cell;
+use std::collections::BTreeMap;
+use std::process::{Command, ExitCode};
+use std::sync::atomic::{AtomicU64, Ordering::Relaxed};
+use std::sync::Mutex;
+use std::time::Instant;
+
+/// How many differences are printed.
+const SHOWN: u64 = 10;
+/// How many cases a wrong program may pass before it counts as not caught.
+const PATIENCE: u64 = 100_000;
+
+type Make = fn(u64) -> Case;
+
+thread_local! {
+    /// The case that this thread is at, for the message of a touch outside.
+    static AT: Cell<*const Case> = const { Cell::new(std::ptr::null()) };
+}
+
+extern "C" {
+    fn signal(number: i32, handler: extern "C" fn(i32)) -> usize;
+}
+
+/// Called where a guard page was touched: names the case and ends the program.
+extern "C" fn touched_outside(_: i32) {
+    // SAFETY: null, or the case that this thread compares just now.
+    if let Some(case) = unsafe { AT.get().as_ref() } {
+        println!("difference: a byte outside what was lent was touched\n  compare --one \"{case}\"");
+    }
+    println!("0 passed, 1 failed");
+    std::process::exit(1);
+}
+
+fn compare(room: &mut Room, rules: &Rules, case: &Case) -> Result<(u32, bool), String> {
+    AT.set(case);
+    let compared = room.compare(rules, case);
+    AT.set(std::ptr::null());
+    compared
+}
+
+/// The ith case of a run: its own seed, whichever thread it falls to.
+fn case(make: Make, seed: u64, i: u64) -> Case {
+    make(Random(seed ^ i.wrapping_mul(0xd134_2543_de82_ef95)).number())
+}
+
+/// How often each export gave each reply, and how often it changed a sheet or list.
+#[derive(Default)]
+struct Tally(BTreeMap<&'static str, ([u64; 11], u64)>);
+
+impl Tally {
+    fn add(&mut self, export: &'static str, (number, changed): (u32, bool)) {
+        let (replies, changes) = self.0.entry(export).or_default();
+        replies[number as usize] += 1;
+        *changes += u64::from(changed);
+    }
+
+    fn join(&mut self, other: &Tally) {
+        for (export, (replies, changes)) in &other.0 {
+            let mine = self.0.entry(export).or_default();
+            mine.0.iter_mut().zip(replies).for_each(|(sum, more)| *sum += more);
+            mine.1 += changes;
+        }
+    }
+
+    fn print(&self) {
+        for (export, (replies, changes)) in &self.0 {
+            let told = replies.iter().enumerate().filter(|&(_, &times)| times > 0);
+            let told: Vec<String> = told.map(|(number, times)| format!("{number}: {times}")).collect();
+            println!("  {export:14} changed something {changes} times; replies {}", told.join(", "));
+        }
+    }
+}
+
+/// Compares so many cases on all processors; whether there was no difference.
+fn run(name: &str, make: Make, count: u64, seed: u64) -> bool {
+    let began = Instant::now();
+    let (next, differences) = (AtomicU64::new(0), AtomicU64::new(0));
+    let tally = Mutex::new(Tally::default());
+    let work = || {
+        let mut room = Room::default();
+        let mut own = Tally::default();
+        loop {
+            let i = next.fetch_add(1, Relaxed);
+            if i >= count || differences.load(Relaxed) >= SHOWN {
+                break;
+            }
+            let case = case(make, seed, i);
+            match compare(&mut room, &Rules::document(), &case) {
+                Ok(outcome) => own.add(case.job.name(), outcome),
+                Err(what) => {
+                    differences.fetch_add(1, Relaxed);
+                    println!("difference: {what}\n  compare --one \"{case}\"");
+                }
+            }
+        }
+        tally.lock().expect("no thread stops").join(&own);
+    };
+    let threads = std::thread::available_parallelism().map_or(1, usize::from);
+    std::thread::scope(|scope| (0..threads).for_each(|_| _ = scope.spawn(work)));
+    let differences = differences.into_inner();
+    println!("{name}: {count} with seed {seed}, {differences} differences, {:.1} s", began.elapsed().as_secs_f64());
+    tally.into_inner().expect("no thread stops").print();
+    differences == 0
+}
+
+/// Whether a wrong program is caught on figures or on files.
+fn caught(rules: &Rules, seed: u64) -> bool {
+    let mut room = Room::default();
+    (0..PATIENCE).any(|i| {
+        [Case::figure, Case::file].into_iter().any(|make| {
+            let case = case(make, seed, i);
+            compare(&mut room, rules, &case).is_err_and(|what| {
+                println!("  caught after {i} cases: {what}\n  {case}");
+                true
+            })
+        })
+    })
+}
+
+/// Whether a program that touches the byte before or after what is lent ends.
+fn ends_by_touch(side: &str) -> bool {
+    let this = std::env::current_exe().expect("this program's own file");
+    let output = Command::new(this).args(["--touch", side]).output().expect("this program runs");
+    !output.status.success() && output.stdout.starts_with(b"0 passed")
+}
+
+fn touch(side: &str) {
+    let mut guarded = Guarded::with_room(1000);
+    let before = side == "before";
+    let lent = guarded.lend::<u8>(1000, if before { Against::Before } else { Against::After });
+    // SAFETY: none; this is to end the program.
+    unsafe { lent.as_mut_ptr().offset(if before { -1 } else { 1000 }).write_volatile(1) };
+}
+
+fn count(results: impl IntoIterator<Item = bool>) -> ExitCode {
+    let (passed, failed): (Vec<bool>, Vec<bool>) = results.into_iter().partition(|&passed| passed);
+    println!("{} passed, {} failed", passed.len(), failed.len());
+    ExitCode::from(u8::from(!failed.is_empty()))
+}
+
+fn usage() -> ExitCode {
+    eprintln!("usage: compare [COUNT] [SEED] | compare --one CASE | compare --teeth");
+    ExitCode::from(2)
+}
+
+fn main() -> ExitCode {
+    const SEGV: i32 = 11;
+    const BUS: i32 = 7;
+    // SAFETY: the handler only prints and exits.
+    unsafe { (signal(SEGV, touched_outside), signal(BUS, touched_outside)) };
+    let words: Vec<String> = std::env::args().skip(1).collect();
+    let words: Vec<&str> = words.iter().map(String::as_str).collect();
+    match words[..] {
+        ["--one", text] => match text.parse::<Case>() {
+            Err(what) => {
+                eprintln!("compare: {what}");
+                ExitCode::from(2)
+            }
+            Ok(case) => {
+                let compared = compare(&mut Room::default(), &Rules::document(), &case);
+                println!(
+                    "{}",
+                    compared.as_ref().map_or_else(|what| format!("difference: {what}"), |(n, _)| format!("reply {n}"))
+                );
+                count([compared.is_ok()])
+            }
+        },
+        ["--teeth"] => {
+            let mut results = Vec::new();
+            for (what, rules) in teeth::wrong_programs() {
+                println!("{what}:");
+                results.push(caught(&rules, 1));
+            }
+            for side in ["before", "after"] {
+                println!("the byte {side} what is lent is touched");
+                results.push(ends_by_touch(side));
+            }
+            count(results)
+        }
+        ["--touch", side] => {
+            touch(side);
+            ExitCode::SUCCESS
+        }
+        [] | [_] | [_, _] => {
+            let number = |at: usize, usual: u64| words.get(at).map_or(Ok(usual), |word| word.parse());
+            let (Ok(many), Ok(seed)) = (number(0, 200_000), number(1, 1)) else {
+                return usage();
+            };
+            count(
+                [("figures", Case::figure as Make), ("files", Case::file)]
+                    .map(|(name, make)| run(name, make, many, seed)),
+            )
+        }
+        _ => usage(),
+    }
+}

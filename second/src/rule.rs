@@ -1,0 +1,281 @@
+//! Figures in cells: which cells each has, and the order of the refusals.
+
+pub const LEAST: i64 = -16_384;
+pub const MOST: i64 = 16_383;
+
+pub type Cell = (i64, i64);
+
+#[derive(Clone, Debug)]
+pub enum Figure {
+    Line(Cell, Cell),
+    Circle(Cell, i64),
+    Ellipse(Cell, i64, i64),
+    Curve([Cell; 3], i64),
+}
+
+/// A number of the table, and the value that goes with it; where there is none, a lent value stays as it was.
+#[derive(Clone, Copy, Debug, PartialEq)]
+pub struct Reply {
+    pub number: u32,
+    pub value: Option<u64>,
+}
+
+impl Reply {
+    pub fn done(value: Option<u64>) -> Reply {
+        Reply { number: 0, value }
+    }
+
+    pub fn refused(number: u32) -> Reply {
+        Reply { number, value: None }
+    }
+}
+
+pub struct Sheet<'a> {
+    pub width: i64,
+    pub height: i64,
+    pub bytes: &'a mut [u8],
+}
+
+impl Sheet<'_> {
+    pub fn fits(&self) -> bool {
+        let limits = 1..=4096;
+        limits.contains(&self.width)
+            && limits.contains(&self.height)
+            && self.bytes.len() as i64 == self.width * self.height
+    }
+}
+
+/// The rules that a wrong program would have wrong, each replaceable; `Rules::document()` has them as they are written.
+#[derive(Clone, Copy)]
+pub struct Rules {
+    /// The cells of a line, from the first named end to the second.
+    pub line: fn(Cell, Cell) -> Vec<Cell>,
+    /// The cells of a line that are tried on a sheet of this width and height.
+    pub drawn: fn(&Rules, i64, i64, Cell, Cell) -> Vec<Cell>,
+    /// The byte of a cell on a sheet of this width and height.
+    pub place: fn(i64, i64, Cell) -> Option<usize>,
+    /// Whether a circle of radius r has the cell (x, y) from its centre.
+    pub on_circle: fn(i64, Cell) -> bool,
+    /// Whether an ellipse of semi-axes a, b has the cell (x, y) from its centre.
+    pub on_ellipse: fn(i64, i64, Cell) -> bool,
+    /// The whole number that a fraction with a positive denominator becomes.
+    pub floor: fn(i64, i64) -> i64,
+    /// The cell of a float.
+    pub cell: fn(f64) -> Option<i64>,
+    /// The number 2, 3 or 4 that refuses a figure.
+    pub refusal: fn(&Rules, &Figure) -> Option<u32>,
+    /// Whether a file is read to its end before the first cell is written.
+    pub reads_first: bool,
+    /// Whether a refusal has the offset of its record.
+    pub tells_offset: bool,
+}
+
+impl Rules {
+    pub fn document() -> Rules {
+        Rules {
+            line: line_cells,
+            drawn: |rules, _, _, from, to| (rules.line)(from, to),
+            place,
+            on_circle,
+            on_ellipse,
+            floor: i64::div_euclid,
+            cell: crate::metres::cell,
+            refusal,
+            reads_first: true,
+            tells_offset: true,
+        }
+    }
+
+    pub fn draw(&self, sheet: &mut Sheet, ink: u8, figure: &Figure) -> Reply {
+        if !sheet.fits() {
+            return Reply::refused(1);
+        }
+        match (self.refusal)(self, figure) {
+            Some(number) => Reply::refused(number),
+            None => Reply::done(self.paint(sheet, ink, figure)),
+        }
+    }
+
+    /// Inks the figure's cells on the sheet; of a line, their number.
+    pub fn paint(&self, sheet: &mut Sheet, ink: u8, figure: &Figure) -> Option<u64> {
+        match *figure {
+            Figure::Line(from, to) => return Some(self.ink_line(sheet, ink, from, to)),
+            Figure::Circle(centre, r) => {
+                self.ink_ring(sheet, ink, centre, (r, r), |from_centre| (self.on_circle)(r, from_centre));
+            }
+            Figure::Ellipse(centre, a, b) => {
+                self.ink_ring(sheet, ink, centre, (a, b), |from_centre| (self.on_ellipse)(a, b, from_centre));
+            }
+            Figure::Curve(points, s) => {
+                for pair in self.joined(points, s).windows(2) {
+                    self.ink_line(sheet, ink, pair[0], pair[1]);
+                }
+            }
+        }
+        None
+    }
+
+    /// The points 0 to n of a curve; none with s above 6.
+    fn joined(&self, [p0, p1, p2]: [Cell; 3], s: i64) -> Vec<Cell> {
+        if s > 6 {
+            return Vec::new();
+        }
+        let n = 1 << s;
+        let at = |i: i64, c0: i64, c1: i64, c2: i64| {
+            let weighed = (n - i) * (n - i) * c0 + 2 * i * (n - i) * c1 + i * i * c2;
+            (self.floor)(2 * weighed + n * n, 2 * n * n)
+        };
+        (0..=n).map(|i| (at(i, p0.0, p1.0, p2.0), at(i, p0.1, p1.1, p2.1))).collect()
+    }
+
+    fn ink_line(&self, sheet: &mut Sheet, ink: u8, from: Cell, to: Cell) -> u64 {
+        let mut inked = 0;
+        for cell in (self.drawn)(self, sheet.width, sheet.height, from, to) {
+            if let Some(place) = (self.place)(sheet.width, sheet.height, cell) {
+                sheet.bytes[place] = ink;
+                inked += 1;
+            }
+        }
+        inked
+    }
+
+    /// Asks every cell of the sheet that is in the ring's box.
+    fn ink_ring(&self, sheet: &mut Sheet, ink: u8, centre: Cell, reach: Cell, has: impl Fn(Cell) -> bool) {
+        for y in (centre.1 - reach.1).max(0)..=(centre.1 + reach.1).min(sheet.height - 1) {
+            for x in (centre.0 - reach.0).max(0)..=(centre.0 + reach.0).min(sheet.width - 1) {
+                if has((x - centre.0, y - centre.1)) {
+                    sheet.bytes[(y * sheet.width + x) as usize] = ink;
+                }
+            }
+        }
+    }
+
+    /// Lists a line's cells: 2, then 5.
+    pub fn list(&self, xs: &mut [i32], ys: &mut [i32], from: Cell, to: Cell) -> Reply {
+        if let Some(number) = (self.refusal)(self, &Figure::Line(from, to)) {
+            return Reply::refused(number);
+        }
+        let cells = (self.line)(from, to);
+        if xs.len() < cells.len() || ys.len() < cells.len() {
+            return Reply::refused(5);
+        }
+        for (i, &(x, y)) in cells.iter().enumerate() {
+            xs[i] = x as i32;
+            ys[i] = y as i32;
+        }
+        Reply::done(Some(cells.len() as u64))
+    }
+}
+
+/// The numbers 2, 3, 4 in this order.
+pub fn refusal(rules: &Rules, figure: &Figure) -> Option<u32> {
+    let strange = |points: &[Cell]| points.iter().any(|&(x, y)| !within(x) || !within(y));
+    match *figure {
+        Figure::Line(from, to) if strange(&[from, to]) => Some(2),
+        Figure::Circle(centre, _) | Figure::Ellipse(centre, _, _) if strange(&[centre]) => Some(2),
+        Figure::Curve(points, s) if strange(&points) || strange(&rules.joined(points, s)) => Some(2),
+        Figure::Circle(_, r) if !(0..=MOST).contains(&r) => Some(3),
+        Figure::Ellipse(_, a, b) if [a, b].iter().any(|axis| !(1..=MOST).contains(axis)) => Some(3),
+        Figure::Curve(_, s) if s > 6 => Some(4),
+        _ => None,
+    }
+}
+
+pub fn within(coordinate: i64) -> bool {
+    (LEAST..=MOST).contains(&coordinate)
+}
+
+pub fn place(width: i64, height: i64, (x, y): Cell) -> Option<usize> {
+    ((0..width).contains(&x) && (0..height).contains(&y)).then_some((y * width + x) as usize)
+}
+
+/// The cells of a line by its rule, which counts from the lesser end.
+pub fn line_cells(from: Cell, to: Cell) -> Vec<Cell> {
+    if (from.1, from.0) <= (to.1, to.0) {
+        cells_from(from, to)
+    } else {
+        let mut cells = cells_from(to, from);
+        cells.reverse();
+        cells
+    }
+}
+
+/// The cells n steps along the longer extent and floor((2nS + L) / (2L)) along the shorter, from one end to the other.
+pub fn cells_from(from: Cell, to: Cell) -> Vec<Cell> {
+    let extent = ((to.0 - from.0).abs(), (to.1 - from.1).abs());
+    let towards = ((to.0 - from.0).signum(), (to.1 - from.1).signum());
+    let (longer, shorter) = (extent.0.max(extent.1), extent.0.min(extent.1));
+    if longer == 0 {
+        return vec![from];
+    }
+    let cell = |n: i64| {
+        let across = (2 * n * shorter + longer).div_euclid(2 * longer);
+        let (along_x, along_y) = if extent.0 >= extent.1 { (n, across) } else { (across, n) };
+        (from.0 + towards.0 * along_x, from.1 + towards.1 * along_y)
+    };
+    (0..=longer).map(cell).collect()
+}
+
+pub fn on_circle(r: i64, from_centre: Cell) -> bool {
+    let (dx, dy) = (from_centre.0.abs(), from_centre.1.abs());
+    let (x, y) = (dx.min(dy), dx.max(dy));
+    let rest = r * r - x * x;
+    (y >= 1 && y * (y - 1) < rest && rest <= y * (y + 1)) || (y == 0 && r == 0)
+}
+
+pub fn on_ellipse(a: i64, b: i64, from_centre: Cell) -> bool {
+    let (x, y) = (from_centre.0.abs(), from_centre.1.abs());
+    let (aa, bb) = (a * a, b * b);
+    let odd_square = |odd: i64| odd * odd;
+    let column = bb * x <= aa * y
+        && 4 * bb * (aa - x * x) < aa * odd_square(2 * y + 1)
+        && (y == 0 || aa * odd_square(2 * y - 1) <= 4 * bb * (aa - x * x));
+    let row = bb * x >= aa * y
+        && 4 * aa * (bb - y * y) < bb * odd_square(2 * x + 1)
+        && (x == 0 || bb * odd_square(2 * x - 1) <= 4 * aa * (bb - y * y));
+    x <= a && y <= b && (column || row)
+}
+
+#[cfg(test)]
+mod tests {
+    use super::*;
+
+    /// The cells of a figure about the middle of a sheet of 40 by 40.
+    fn count(figure: Figure) -> usize {
+        let mut bytes = vec![0; 1600];
+        let mut sheet = Sheet { width: 40, height: 40, bytes: &mut bytes };
+        assert_eq!(Rules::document().draw(&mut sheet, 1, &figure).number, 0);
+        bytes.iter().filter(|&&byte| byte == 1).count()
+    }
+
+    #[test]
+    fn lines_of_the_document() {
+        assert_eq!(line_cells((0, 0), (2, 1)), [(0, 0), (1, 1), (2, 1)]);
+        assert_eq!(line_cells((2, 1), (0, 0)), [(2, 1), (1, 1), (0, 0)]);
+        assert_eq!(line_cells((0, 0), (5, 2)), [(0, 0), (1, 0), (2, 1), (3, 1), (4, 2), (5, 2)]);
+        assert_eq!(line_cells((0, 0), (2, -1)), [(0, 0), (1, 0), (2, -1)]);
+        assert_eq!(line_cells((0, 0), (1, 2)), [(0, 0), (1, 1), (1, 2)]);
+        assert_eq!(line_cells((4, 4), (4, 4)), [(4, 4)]);
+    }
+
+    #[test]
+    fn rings_of_the_document() {
+        assert_eq!(count(Figure::Circle((20, 20), 0)), 1);
+        assert_eq!(count(Figure::Circle((20, 20), 2)), 12);
+        assert_eq!(count(Figure::Circle((20, 20), 3)), 16);
+        assert_eq!(count(Figure::Ellipse((20, 20), 3, 2)), 16);
+        for cell in [(0, 2), (1, 2), (2, 1), (3, 1), (3, 0)] {
+            assert!(on_ellipse(3, 2, cell));
+        }
+    }
+
+    #[test]
+    fn curves_of_the_document() {
+        let rules = Rules::document();
+        assert_eq!(rules.joined([(0, 0), (2, 4), (4, 0)], 1), [(0, 0), (2, 2), (4, 0)]);
+        assert_eq!(rules.joined([(-1, 0), (-1, -1), (0, 0)], 1), [(-1, 0), (-1, 0), (0, 0)]);
+        assert_eq!(refusal(&rules, &Figure::Curve([(0, 0); 3], 7)), Some(4));
+        assert_eq!(refusal(&rules, &Figure::Curve([(0, 0); 3], 6)), None);
+        assert_eq!(refusal(&rules, &Figure::Line((0, 0), (16_384, 0))), Some(2));
+    }
+}

@@ -1,0 +1,158 @@
+//! One case, drawn by the library between guard pages and by the second program, and compared.
+use crate::case::{Case, Job, Size, MOST_BYTES, MOST_PLACES};
+use crate::guard::{Against, Guarded};
+use crate::native::{self, Cells, Lent};
+use crate::random::Random;
+use crate::rule::{Figure, Reply, Rules, Sheet};
+use std::fmt::Display;
+
+/// The room for everything that a case lends to the library.
+pub struct Room {
+    sheet: Guarded,
+    lists: [Guarded; 2],
+    file: Guarded,
+    value: Guarded,
+}
+
+/// What a case leaves behind: reply, value, the sheet, and the two lists.
+struct Outcome {
+    number: u32,
+    value: u64,
+    sheet: Vec<u8>,
+    lists: [Vec<i32>; 2],
+}
+
+impl Default for Room {
+    fn default() -> Room {
+        let places = || Guarded::with_room(4 * MOST_PLACES);
+        Room {
+            sheet: Guarded::with_room(MOST_BYTES),
+            lists: [places(), places()],
+            file: Guarded::with_room(1 << 16),
+            value: Guarded::with_room(8),
+        }
+    }
+}
+
+impl Room {
+    /// Draws a case both ways: the reply that both gave and whether a sheet or list changed, or what differs.
+    pub fn compare(&mut self, rules: &Rules, case: &Case) -> Result<(u32, bool), String> {
+        let before = Outcome::before(case);
+        let mut expected = Outcome::before(case);
+        expected.by_rules(rules, &case.job);
+        for against in [Against::Before, Against::After] {
+            self.by_library(&before, &expected, &case.job, against)?;
+        }
+        let changed = expected.sheet != before.sheet || expected.lists != before.lists;
+        Ok((expected.number, changed))
+    }
+
+    fn by_library(&mut self, before: &Outcome, expected: &Outcome, job: &Job, against: Against) -> Result<(), String> {
+        let sheet = self.sheet.lend::<u8>(before.sheet.len(), against);
+        sheet.copy_from_slice(&before.sheet);
+        let [xs, ys] = self.lists.each_mut();
+        let (xs, ys) = (xs.lend::<i32>(before.lists[0].len(), against), ys.lend::<i32>(before.lists[1].len(), against));
+        xs.copy_from_slice(&before.lists[0]);
+        ys.copy_from_slice(&before.lists[1]);
+        let sides = |size: &Size| (size.width, size.height);
+        let mut short = |call: &mut dyn FnMut(&mut u32) -> u32| {
+            let value = &mut self.value.lend::<u32>(1, against)[0];
+            *value = before.value as u32;
+            (call(value), u64::from(*value))
+        };
+        let (number, value) = match job {
+            Job::Cells(size, ink, figure) => {
+                let (width, height) = sides(size);
+                short(&mut |value| native::draw(Lent { bytes: sheet, width, height }, *ink, *figure, value))
+            }
+            Job::Metres(size, ink, survey, figure) => {
+                let (width, height) = sides(size);
+                let draw = native::draw_metres;
+                short(&mut |value| draw(Lent { bytes: sheet, width, height }, *ink, *survey, *figure, value))
+            }
+            Job::List(_, ends) => short(&mut |value| native::list(xs, ys, *ends, value)),
+            Job::File(size, bytes) => {
+                let (width, height) = sides(size);
+                let file = self.file.lend::<u8>(bytes.len(), against);
+                file.copy_from_slice(bytes);
+                let value = &mut self.value.lend::<u64>(1, against)[0];
+                *value = before.value;
+                let number = native::file(Lent { bytes: sheet, width, height }, file, value);
+                if file != bytes {
+                    return Err("the file was changed".into());
+                }
+                (number, *value)
+            }
+        };
+        same("reply", &[number], &[expected.number])?;
+        same("value", &[value], &[expected.value])?;
+        same("byte", sheet, &expected.sheet)?;
+        same("x", xs, &expected.lists[0])?;
+        same("y", ys, &expected.lists[1])
+    }
+}
+
+/// Where the library's numbers first differ from those of the rules.
+fn same<T: PartialEq + Display>(name: &str, found: &[T], expected: &[T]) -> Result<(), String> {
+    if found == expected {
+        return Ok(());
+    }
+    let differ = found.iter().zip(expected).enumerate().find(|(_, (one, other))| one != other);
+    let (at, (one, other)) = differ.ok_or("lengths differ")?;
+    Err(format!("{name} {at} is {one}, by the rules {other}"))
+}
+
+impl Outcome {
+    /// What is lent, before anything is drawn.
+    fn before(case: &Case) -> Outcome {
+        let mut random = Random(case.fill);
+        // an export that tells its value in 32 bits is lent 32 bits
+        let most = if matches!(case.job, Job::File(..)) { u64::MAX } else { u64::from(u32::MAX) };
+        let value = random.number() & most;
+        let (mut sheet, mut lists) = (Vec::new(), [Vec::new(), Vec::new()]);
+        match &case.job {
+            Job::Cells(size, ..) | Job::Metres(size, ..) | Job::File(size, _) => {
+                sheet.resize(size.len, 0);
+                random.fill(&mut sheet);
+            }
+            Job::List(places, _) => {
+                lists = places.map(|count| (0..count).map(|_| random.number() as i32).collect());
+            }
+        }
+        Outcome { number: 0, value, sheet, lists }
+    }
+
+    fn by_rules(&mut self, rules: &Rules, job: &Job) {
+        let mut sheet = Sheet { width: 0, height: 0, bytes: &mut self.sheet };
+        if let Job::Cells(size, ..) | Job::Metres(size, ..) | Job::File(size, _) = job {
+            (sheet.width, sheet.height) = (size.width.into(), size.height.into());
+        }
+        let Reply { number, value } = match job {
+            Job::Cells(_, ink, figure) => rules.draw(&mut sheet, *ink, &widened(figure)),
+            Job::Metres(_, ink, survey, figure) => rules.draw_metres(&mut sheet, *ink, *survey, *figure),
+            Job::File(_, bytes) => rules.draw_file(&mut sheet, bytes),
+            Job::List(_, ends) => {
+                let [x0, y0, x1, y1] = ends.map(i64::from);
+                let [xs, ys] = &mut self.lists;
+                rules.list(xs, ys, (x0, y0), (x1, y1))
+            }
+        };
+        self.number = number;
+        self.value = value.unwrap_or(self.value);
+    }
+}
+
+fn widened(figure: &Cells) -> Figure {
+    match *figure {
+        Cells::Line(ends) => {
+            let [x0, y0, x1, y1] = ends.map(i64::from);
+            Figure::Line((x0, y0), (x1, y1))
+        }
+        Cells::Circle([x, y], r) => Figure::Circle((x.into(), y.into()), r.into()),
+        Cells::Ellipse([x, y], a, b) => Figure::Ellipse((x.into(), y.into()), a.into(), b.into()),
+        Cells::Curve(points, s) => {
+            let [x0, y0, x1, y1, x2, y2] = points.map(i64::from);
+            Figure::Curve([(x0, y0), (x1, y1), (x2, y2)], s.into())
+        }
+    }
+}

@@ -1,0 +1,98 @@
+//! Second programs that are wrong on purpose: a comparison that is worth anything catches each.
+use crate::rule::{cells_from, line_cells, place, refusal, Cell, Figure, Rules};
+
+/// Each with what is wrong in it.
+pub fn wrong_programs() -> Vec<(&'static str, Rules)> {
+    let right = Rules::document();
+    vec![
+        ("a line walks from the first named end", Rules { line: cells_from, ..right }),
+        ("a line leaves out its last cell", Rules { line: without_last, ..right }),
+        ("a line is cut at the sheet's edge and the rest drawn afresh", Rules { drawn: cut, ..right }),
+        ("an off-sheet x is wrapped into the next row", Rules { place: wrapped, ..right }),
+        ("a circle's outer edge has < for <=", Rules { on_circle: circle_outside_edge, ..right }),
+        ("a circle's inner edge has <= for <", Rules { on_circle: circle_inside_edge, ..right }),
+        ("an ellipse has no row rule", Rules { on_ellipse: ellipse_by_columns, ..right }),
+        ("a curve's division drops the fraction", Rules { floor: |n, d| n / d, ..right }),
+        ("a cell in metres drops the fraction", Rules { cell: dropped, ..right }),
+        ("a cell in metres is the nearest", Rules { cell: nearest, ..right }),
+        ("a coordinate of 16,384 is taken for 16,383", Rules { refusal: one_more, ..right }),
+        ("a radius is refused before a coordinate", Rules { refusal: radius_first, ..right }),
+        ("a semi-axis of 0 is drawn", Rules { refusal: flat, ..right }),
+        ("s = 7 is drawn as s = 6", Rules { refusal: seventh, ..right }),
+        ("a file is drawn as it is read", Rules { reads_first: false, ..right }),
+        ("a refused file tells offset 0", Rules { tells_offset: false, ..right }),
+    ]
+}
+
+fn without_last(from: Cell, to: Cell) -> Vec<Cell> {
+    let mut cells = line_cells(from, to);
+    cells.pop();
+    cells
+}
+
+fn cut(_: &Rules, width: i64, height: i64, from: Cell, to: Cell) -> Vec<Cell> {
+    let mut cells = line_cells(from, to);
+    cells.retain(|&cell| place(width, height, cell).is_some());
+    match cells[..] {
+        [first, .., last] => line_cells(first, last),
+        _ => cells,
+    }
+}
+
+fn wrapped(width: i64, height: i64, (x, y): Cell) -> Option<usize> {
+    let place = y * width + x;
+    (0..width * height).contains(&place).then_some(place as usize)
+}
+
+fn circle_outside_edge(r: i64, (x, y): Cell) -> bool {
+    let (x, y) = (x.abs().min(y.abs()), x.abs().max(y.abs()));
+    let rest = r * r - x * x;
+    (y >= 1 && y * (y - 1) < rest && rest < y * (y + 1)) || (y == 0 && r == 0)
+}
+
+fn circle_inside_edge(r: i64, (x, y): Cell) -> bool {
+    let (x, y) = (x.abs().min(y.abs()), x.abs().max(y.abs()));
+    let rest = r * r - x * x;
+    (y >= 1 && y * (y - 1) <= rest && rest <= y * (y + 1)) || (y == 0 && r == 0)
+}
+
+fn ellipse_by_columns(a: i64, b: i64, (x, y): Cell) -> bool {
+    crate::rule::on_ellipse(a, b, (x, y)) && b * b * x.abs() <= a * a * y.abs()
+}
+
+fn dropped(q: f64) -> Option<i64> {
+    crate::metres::cell(q.trunc())
+}
+
+fn nearest(q: f64) -> Option<i64> {
+    crate::metres::cell((q + 0.5).floor())
+}
+
+fn one_more(rules: &Rules, figure: &Figure) -> Option<u32> {
+    let less = |(x, y): Cell| (if x == 16_384 { 16_383 } else { x }, if y == 16_384 { 16_383 } else { y });
+    match *figure {
+        Figure::Line(from, to) => refusal(rules, &Figure::Line(less(from), less(to))),
+        _ => refusal(rules, figure),
+    }
+}
+
+fn radius_first(rules: &Rules, figure: &Figure) -> Option<u32> {
+    match *figure {
+        Figure::Circle(_, r) => refusal(rules, &Figure::Circle((0, 0), r)).or_else(|| refusal(rules, figure)),
+        _ => refusal(rules, figure),
+    }
+}
+
+fn flat(rules: &Rules, figure: &Figure) -> Option<u32> {
+    match *figure {
+        Figure::Ellipse(centre, a, b) => refusal(rules, &Figure::Ellipse(centre, a.max(1), b.max(1))),
+        _ => refusal(rules, figure),
+    }
+}
+
+fn seventh(rules: &Rules, figure: &Figure) -> Option<u32> {
+    match *figure {
+        Figure::Curve(points, 7) => refusal(rules, &Figure::Curve(points, 6)),
+        _ => refusal(rules, figure),
+    }
+}
