@@ -1,0 +1,33 @@
+/* boundary.c: one boundary drawn from each of its ends, as two controllers draw it, and listed; prints the sheet and whether the two agree. */
+#include <stdio.h>
+#include <string.h>
+
+#include "pistonwool.h"
+
+enum { WIDTH = 16, HEIGHT = 8 };
+
+int main(void) {
+    uint8_t harbour[WIDTH * HEIGHT] = {0}, hill[WIDTH * HEIGHT] = {0};
+    int32_t xs[32], ys[32];
+    uint32_t cells = 0;
+
+    if (pw_line(harbour, sizeof harbour, WIDTH, HEIGHT, 1, 0, 7, 15, 0, &cells) != PW_DONE)
+        return 1;
+    if (pw_line(hill, sizeof hill, WIDTH, HEIGHT, 1, 15, 0, 0, 7, &cells) != PW_DONE)
+        return 1;
+    if (pw_list(xs, 32, ys, 32, 0, 7, 15, 0, &cells) != PW_DONE)
+        return 1;
+
+    for (int y = 0; y < HEIGHT; y++) {
+        for (int x = 0; x < WIDTH; x++)
+            putchar(harbour[y * WIDTH + x] ? '#' : '.');
+        putchar('\n');
+    }
+    printf("%u cells, from (%d,%d) to (%d,%d)\n", cells, xs[0], ys[0], xs[cells - 1], ys[cells - 1]);
+    printf("the two sheets %s\n", memcmp(harbour, hill, sizeof hill) ? "differ" : "are the same");
+
+    /* nothing is tested before a call: what cannot be drawn is refused by number, and nothing is written */
+    printf("an end at 16,384 is refused with %u\n", pw_line(hill, sizeof hill, WIDTH, HEIGHT, 1, 0, 0, 16384, 0, &cells));
+    printf("a sheet one byte short is refused with %u\n", pw_line(hill, sizeof hill - 1, WIDTH, HEIGHT, 1, 0, 0, 1, 0, &cells));
+    return 0;
+}
