@@ -1,0 +1,243 @@
+/* speed.c: the proved library beside its rivals: the same figures in one run, best of several rounds, as a table. */
+#include <stdio.h>
+#include <stdlib.h>
+#include <string.h>
+#include <time.h>
+
+#include "pistonwool.h"
+#include "speed.h"
+
+enum { ROUNDS = 15, MOST = 20000, CELLS = 300000, RECORDS = 200, FAR = 500 };
+
+static uint64_t state = 1;
+
+/* a number from least to most */
+static int32_t between(int32_t least, int32_t most) {
+    state = state * 6364136223846793005u + 1442695040888963407u;
+    return least + (int32_t)((state >> 33) % (uint64_t)(most - least + 1));
+}
+
+static int pistonwool(struct sheet *s, const struct figure *f) {
+    size_t len = (size_t)s->side * s->side;
+    uint32_t cells, reply = 0;
+    switch (f->kind) {
+    case LINE: reply = pw_line(s->bytes, len, s->side, s->side, 1, f->x0, f->y0, f->x1, f->y1, &cells); break;
+    case CIRCLE: reply = pw_circle(s->bytes, len, s->side, s->side, 1, f->x0, f->y0, f->a); break;
+    case ELLIPSE: reply = pw_ellipse(s->bytes, len, s->side, s->side, 1, f->x0, f->y0, f->a, f->b); break;
+    case CURVE:
+        reply = pw_curve(s->bytes, len, s->side, s->side, 1, f->x0, f->y0, f->x1, f->y1, f->x2, f->y2, f->s);
+        break;
+    case LISTING: reply = pw_list(s->xs, s->places, s->ys, s->places, f->x0, f->y0, f->x1, f->y1, &cells); break;
+    }
+    if (reply != PW_DONE) {
+        fprintf(stderr, "speed: a figure was refused with %u\n", reply);
+        exit(1);
+    }
+    return 1;
+}
+
+static uint8_t file[RECORDS * 18];
+static size_t file_length;
+
+static void byte(uint32_t value) {
+    file[file_length++] = (uint8_t)value;
+}
+
+static void pair(int32_t value) {
+    byte((uint32_t)value & 255);
+    byte((uint32_t)value >> 8 & 255);
+}
+
+static void record(const struct figure *f) {
+    static const uint8_t lengths[] = {[LINE] = 11, [CIRCLE] = 9, [ELLIPSE] = 11, [CURVE] = 16};
+    pair(lengths[f->kind]);
+    pair(f->kind);
+    byte(1);
+    pair(f->x0);
+    pair(f->y0);
+    if (f->kind == CIRCLE || f->kind == ELLIPSE)
+        pair((int32_t)f->a);
+    if (f->kind == ELLIPSE)
+        pair((int32_t)f->b);
+    if (f->kind == LINE || f->kind == CURVE) {
+        pair(f->x1);
+        pair(f->y1);
+    }
+    if (f->kind == CURVE) {
+        pair(f->x2);
+        pair(f->y2);
+        byte(f->s);
+    }
+}
+
+/* the whole file at once, whatever the figure */
+static int whole_file(struct sheet *s, const struct figure *f) {
+    uint64_t records;
+    (void)f;
+    if (pw_file(s->bytes, (size_t)s->side * s->side, s->side, s->side, file, file_length, &records) != PW_DONE)
+        exit(1);
+    return 1;
+}
+
+/* a figure of this kind that lies wholly on the sheet */
+static struct figure some(enum kind kind, int32_t side) {
+    struct figure f = {.kind = kind, .s = 6};
+    int32_t last = side - 1;
+    if (kind == CIRCLE || kind == ELLIPSE) {
+        f.a = (uint32_t)between(side / 16, side / 2 - 1);
+        f.b = kind == CIRCLE ? f.a : (uint32_t)between(side / 16, side / 2 - 1);
+        f.x0 = between((int32_t)f.a, last - (int32_t)f.a);
+        f.y0 = between((int32_t)f.b, last - (int32_t)f.b);
+        return f;
+    }
+    f.x0 = between(0, last);
+    f.y0 = between(0, last);
+    f.x1 = between(0, last);
+    f.y1 = between(0, last);
+    f.x2 = between(0, last);
+    f.y2 = between(0, last);
+    return f;
+}
+
+/* a line through the sheet between two cells far outside it */
+static struct figure far_line(int32_t side) {
+    struct figure f = {.kind = LINE, .x0 = between(-8000, 8000), .y0 = between(-8000, 8000)};
+    f.x1 = 2 * between(0, side - 1) - f.x0;
+    f.y1 = 2 * between(0, side - 1) - f.y0;
+    return f;
+}
+
+/* how many cells the figure has on the sheet, which is left clear */
+static size_t cells_of(struct sheet *s, const struct figure *f) {
+    size_t len = (size_t)s->side * s->side, cells = 0;
+    struct figure drawn = *f;
+    if (drawn.kind == LISTING)
+        drawn.kind = LINE;
+    memset(s->bytes, 0, len);
+    pistonwool(s, &drawn);
+    for (size_t i = 0; i < len; i++)
+        cells += s->bytes[i];
+    memset(s->bytes, 0, len);
+    return cells;
+}
+
+static double now(void) {
+    struct timespec t;
+    clock_gettime(CLOCK_MONOTONIC, &t);
+    return (double)t.tv_sec * 1e9 + (double)t.tv_nsec;
+}
+
+struct way {
+    draw *draw;
+    size_t figures;
+    double best;
+};
+
+/* nanoseconds for one pass over the figures, or below 0 where this way does not know their kind */
+static double pass(struct sheet *s, const struct way *way, const struct figure *figures) {
+    double begun = now();
+    for (size_t i = 0; i < way->figures; i++)
+        if (!way->draw(s, &figures[i]))
+            return -1;
+    return now() - begun;
+}
+
+static void told(double ns) {
+    if (ns < 0)
+        printf(" | -");
+    else
+        printf(" | %.2f", ns);
+}
+
+/* one row of the table: each way's nanoseconds by the unit, and ours as a part of the plain walk's */
+static void row(const char *name, const char *unit, struct sheet *s, struct way *ways, size_t n,
+                const struct figure *figures, size_t units) {
+    for (size_t w = 0; w < n; w++)
+        ways[w].best = -1;
+    for (int round = 0; round < ROUNDS; round++)
+        for (size_t w = 0; w < n; w++) {
+            double ns = pass(s, &ways[w], figures);
+            if (ns >= 0 && (ways[w].best < 0 || ns < ways[w].best))
+                ways[w].best = ns;
+        }
+    printf("| %s, ns a %s | %u²", name, unit, s->side);
+    for (size_t w = 0; w < n; w++)
+        told(ways[w].best < 0 ? -1 : ways[w].best / (double)units);
+    printf(" | %.2f |\n", ways[0].best / ways[1].best);
+    fflush(stdout);
+}
+
+static void rows(struct sheet *s, struct way *ways, size_t n) {
+    static const struct {
+        enum kind kind;
+        const char *name;
+    } kinds[] = {{LINE, "lines"}, {CIRCLE, "circles"}, {ELLIPSE, "ellipses"}, {CURVE, "curves"}, {LISTING, "listing"}};
+    static struct figure figures[MOST];
+    for (size_t k = 0; k < sizeof kinds / sizeof *kinds; k++) {
+        size_t count = 0, cells = 0;
+        while (count < MOST && cells < CELLS) {
+            figures[count] = some(kinds[k].kind, (int32_t)s->side);
+            cells += cells_of(s, &figures[count++]);
+        }
+        for (size_t w = 0; w < n; w++)
+            ways[w].figures = count;
+        row(kinds[k].name, "cell", s, ways, n, figures, cells);
+    }
+    for (size_t i = 0; i < FAR; i++)
+        figures[i] = far_line((int32_t)s->side);
+    for (size_t w = 0; w < n; w++)
+        ways[w].figures = FAR;
+    row("lines with far ends", "line", s, ways, n, figures, FAR);
+
+    size_t cells = 0;
+    file_length = 0;
+    for (size_t i = 0; i < RECORDS; i++) {
+        figures[i] = some((enum kind)between(LINE, CURVE), (int32_t)s->side);
+        cells += cells_of(s, &figures[i]);
+        record(&figures[i]);
+    }
+    for (size_t w = 0; w < n; w++)
+        ways[w].figures = RECORDS;
+    row("a file's figures one by one", "cell", s, ways, n, figures, cells);
+    ways[0] = (struct way){.draw = whole_file, .figures = 1};
+    row("the file", "cell", s, ways, n, figures, cells);
+    ways[0].draw = pistonwool;
+}
+
+int main(void) {
+    static const uint32_t sides[] = {64, 512, 4096};
+    struct way ways[4] = {{.draw = pistonwool}, {.draw = walk}};
+    size_t n = 2;
+    printf("| figures | sheet | Pistonwool | C");
+#ifdef OPENCV
+    ways[n++].draw = opencv;
+    printf(" | OpenCV");
+#endif
+#ifdef LIBGD
+    ways[n++].draw = libgd;
+    printf(" | libgd");
+#endif
+    printf(" | Pistonwool / C |\n|---|---");
+    for (size_t i = 0; i <= n; i++)
+        printf("|---");
+    printf("|\n");
+    for (size_t i = 0; i < sizeof sides / sizeof *sides; i++) {
+        uint32_t side = sides[i];
+        struct sheet s = {.bytes = calloc(side, side), .side = side, .places = side};
+        s.xs = calloc(side, sizeof *s.xs);
+        s.ys = calloc(side, sizeof *s.ys);
+        if (!s.bytes || !s.xs || !s.ys)
+            return 1;
+#ifdef LIBGD
+        libgd_begin(side);
+#endif
+        rows(&s, ways, n);
+#ifdef LIBGD
+        libgd_end();
+#endif
+        free(s.bytes);
+        free(s.xs);
+        free(s.ys);
+    }
+    return 0;
+}

@@ -1,0 +1,45 @@
+/* speed.h: a figure to draw and the ways to draw it that are measured beside each other. */
+#ifndef SPEED_H
+#define SPEED_H
+
+#include <stddef.h>
+#include <stdint.h>
+
+#ifdef __cplusplus
+extern "C" {
+#endif
+
+enum kind { LINE = 1, CIRCLE, ELLIPSE, CURVE, LISTING };
+
+struct figure {
+    enum kind kind;
+    int32_t x0, y0, x1, y1, x2, y2;
+    uint32_t a, b, s;
+};
+
+struct sheet {
+    uint8_t *bytes;
+    uint32_t side;
+    int32_t *xs, *ys;
+    size_t places;
+};
+
+/* draws the figure with ink 1; answers whether this way knows the figure's kind */
+typedef int draw(struct sheet *sheet, const struct figure *figure);
+
+/* a plain C walk: figures that lie wholly on the sheet step an index, others test each cell */
+draw walk;
+/* the same figures by the libraries of these names, where they were there to compile with */
+draw opencv, libgd;
+/* libgd draws on an image of its own */
+void libgd_begin(uint32_t side);
+void libgd_end(void);
+
+/* the ith of the curve's 2^s + 1 joined points */
+void joined(const struct figure *curve, uint32_t i, int32_t *x, int32_t *y);
+
+#ifdef __cplusplus
+}
+#endif
+
+#endif

@@ -1,0 +1,152 @@
+/* walk.c: what a C programmer would write without us: Bresenham's line, the midpoint circle and ellipse. */
+#include <stdlib.h>
+
+#include "speed.h"
+
+static int on(const struct sheet *s, int32_t x, int32_t y) {
+    return (uint32_t)x < s->side && (uint32_t)y < s->side;
+}
+
+static void mark(struct sheet *s, int32_t x, int32_t y) {
+    if (on(s, x, y))
+        s->bytes[(size_t)y * s->side + (size_t)x] = 1;
+}
+
+static void line(struct sheet *s, int32_t x0, int32_t y0, int32_t x1, int32_t y1) {
+    int32_t w = abs(x1 - x0), h = abs(y1 - y0), sx = x0 < x1 ? 1 : -1, sy = y0 < y1 ? 1 : -1;
+    int32_t most = w > h ? w : h, least = w > h ? h : w, error = most / 2;
+    if (on(s, x0, y0) && on(s, x1, y1)) {
+        ptrdiff_t along = w > h ? sx : sy * (ptrdiff_t)s->side, across = w > h ? sy * (ptrdiff_t)s->side : sx;
+        uint8_t *at = s->bytes + (size_t)y0 * s->side + (size_t)x0;
+        for (int32_t n = 0; n <= most; n++) {
+            *at = 1;
+            at += along;
+            error -= least;
+            if (error < 0) {
+                error += most;
+                at += across;
+            }
+        }
+        return;
+    }
+    for (int32_t n = 0; n <= most; n++) {
+        mark(s, x0, y0);
+        if (w > h)
+            x0 += sx;
+        else
+            y0 += sy;
+        error -= least;
+        if (error < 0) {
+            error += most;
+            if (w > h)
+                y0 += sy;
+            else
+                x0 += sx;
+        }
+    }
+}
+
+static void list(struct sheet *s, int32_t x0, int32_t y0, int32_t x1, int32_t y1) {
+    int32_t w = abs(x1 - x0), h = abs(y1 - y0), sx = x0 < x1 ? 1 : -1, sy = y0 < y1 ? 1 : -1;
+    int32_t most = w > h ? w : h, least = w > h ? h : w, error = most / 2;
+    int32_t ax = w > h ? sx : 0, ay = w > h ? 0 : sy, cx = w > h ? 0 : sx, cy = w > h ? sy : 0;
+    for (int32_t n = 0; n <= most; n++) {
+        s->xs[n] = x0;
+        s->ys[n] = y0;
+        x0 += ax;
+        y0 += ay;
+        error -= least;
+        if (error < 0) {
+            error += most;
+            x0 += cx;
+            y0 += cy;
+        }
+    }
+}
+
+/* the two rows y above and below the centre, x to either side of it, without a test: the ring is on the sheet */
+static void mirror(uint8_t *centre, ptrdiff_t side, ptrdiff_t x, ptrdiff_t y) {
+    centre[y * side + x] = 1;
+    centre[y * side - x] = 1;
+    centre[-y * side + x] = 1;
+    centre[-y * side - x] = 1;
+}
+
+static void circle(struct sheet *s, int32_t cx, int32_t cy, int32_t r) {
+    uint8_t *centre = s->bytes + (size_t)cy * s->side + (size_t)cx;
+    int32_t x = 0, y = r, error = 1 - r;
+    while (x <= y) {
+        mirror(centre, s->side, x, y);
+        mirror(centre, s->side, y, x);
+        x++;
+        if (error < 0) {
+            error += 2 * x + 1;
+        } else {
+            y--;
+            error += 2 * (x - y) + 1;
+        }
+    }
+}
+
+static void ellipse(struct sheet *s, int32_t cx, int32_t cy, int64_t a, int64_t b) {
+    uint8_t *centre = s->bytes + (size_t)cy * s->side + (size_t)cx;
+    int64_t aa = a * a, bb = b * b, x = 0, y = b, px = 0, py = 2 * aa * y;
+    int64_t p = bb - aa * b + aa / 4;
+    while (px < py) {
+        mirror(centre, s->side, x, y);
+        x++;
+        px += 2 * bb;
+        if (p < 0) {
+            p += bb + px;
+        } else {
+            y--;
+            py -= 2 * aa;
+            p += bb + px - py;
+        }
+    }
+    p = bb * (x * x + x) + bb / 4 + aa * (y - 1) * (y - 1) - aa * bb;
+    while (y >= 0) {
+        mirror(centre, s->side, x, y);
+        y--;
+        py -= 2 * aa;
+        if (p > 0) {
+            p += aa - py;
+        } else {
+            x++;
+            px += 2 * bb;
+            p += aa - py + px;
+        }
+    }
+}
+
+static int32_t blend(int32_t p0, int32_t p1, int32_t p2, int32_t i, uint32_t s) {
+    int32_t n = 1 << s, j = n - i;
+    int64_t sum = (int64_t)j * j * p0 + (int64_t)2 * i * j * p1 + (int64_t)i * i * p2;
+    return (int32_t)((2 * sum + (int64_t)n * n) >> (2 * s + 1));
+}
+
+void joined(const struct figure *c, uint32_t i, int32_t *x, int32_t *y) {
+    *x = blend(c->x0, c->x1, c->x2, (int32_t)i, c->s);
+    *y = blend(c->y0, c->y1, c->y2, (int32_t)i, c->s);
+}
+
+static void curve(struct sheet *s, const struct figure *c) {
+    int32_t x0 = c->x0, y0 = c->y0, x1, y1;
+    for (uint32_t i = 1; i <= 1u << c->s; i++) {
+        joined(c, i, &x1, &y1);
+        line(s, x0, y0, x1, y1);
+        x0 = x1;
+        y0 = y1;
+    }
+}
+
+int walk(struct sheet *s, const struct figure *f) {
+    switch (f->kind) {
+    case LINE: line(s, f->x0, f->y0, f->x1, f->y1); break;
+    case CIRCLE: circle(s, f->x0, f->y0, (int32_t)f->a); break;
+    case ELLIPSE: ellipse(s, f->x0, f->y0, f->a, f->b); break;
+    case CURVE: curve(s, f); break;
+    case LISTING: list(s, f->x0, f->y0, f->x1, f->y1); break;
+    }
+    return 1;
+}
