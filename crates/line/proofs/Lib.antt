@@ -9,7 +9,6 @@ pub mod Chains
 pub mod Distances
 pub mod Distinct
 pub mod EitherEnd
-pub mod Examples
 pub mod Filled
 pub mod Fixed
 pub mod Hops
