@@ -1,4 +1,4 @@
--- A joint lies between the least and the greatest control value: its weights come to n², and a whole number is its own rounding.
+-- A joint lies between the least and the greatest control value: its weights come to n², and rounding does not pass a whole number.
 use Prim.Native.Nat.{ℕ, zero, suc, _+_, _-_, _*_, _/_, _^_, _≤_, _<_}
 use mathlib.Core.Path.{_≡_, refl, sym, ap, _∙_}
 use mathlib.Core.Bool.{true}
@@ -45,11 +45,6 @@ joint-least p q r n i low l m a b c = rounded-least _ (n * n) low l (mean-least 
 joint-most : (p q r n i high : ℕ) → 0 < n * n → i ≤ n → p ≤ high → q ≤ high → r ≤ high → jointOf p q r n i ≤ high
 joint-most p q r n i high l m a b c = rounded-most _ (n * n) high l (mean-most n i (n - i) p q r (omega arith) high a b c)
 
-all-true : (n : ℕ) → all n (λ (i : ℕ). true) ≡ true
-unfolding all
-all-true zero = refl
-all-true (suc n) = simp (all-true n)
-
 -- so a joint of moved coordinates is one
 joint-moved : (p q r s i : ℕ) → Moved p → Moved q → Moved r → i ≤ 2 ^ s → Moved (jointOf p q r (2 ^ s) i)
 joint-moved p q r s i a b c m =
@@ -68,14 +63,18 @@ spot-in p a b = simp (coordinate-in (p .x) a, coordinate-in (p .y) b)
     coordinate-in m h = sym (moved-within m) ∙ simp (le-leb 49152 m (h .least), le-leb m 81919 (h .most))
 
 -- and so are all joined points
+all-true : (n : ℕ) → all n (λ (i : ℕ). true) ≡ true
+unfolding all
+all-true zero = refl
+all-true (suc n) = simp (all-true n)
+
 pub joints-in : (c : Controls) (s : ℕ) → Bends c → all (2 ^ s + 1) (isIn c s) ≡ true
-joints-in c s h = by (2 ^ s + 1) (λ i l. spot-in (jointAt c s i) (x-in i (omega arith)) (y-in i (omega arith)))
+joints-in c s h =
+    all-as (2 ^ s + 1) (isIn c s) (λ (i : ℕ). true) (λ i l. spot-in (jointAt c s i) (x-in i (omega arith)) (y-in i (omega arith)))
+    ∙ all-true (2 ^ s + 1)
   where
     x-in : (i : ℕ) → i ≤ 2 ^ s → Moved (jointAt c s i .x)
     x-in i m = unfold jointAt in joint-moved (c .x0) (c .x1) (c .x2) s i (h .x0-in) (h .x1-in) (h .x2-in) m
 
     y-in : (i : ℕ) → i ≤ 2 ^ s → Moved (jointAt c s i .y)
     y-in i m = unfold jointAt in joint-moved (c .y0) (c .y1) (c .y2) s i (h .y0-in) (h .y1-in) (h .y2-in) m
-
-    by : (n : ℕ) → ((i : ℕ) → i < n → isIn c s i ≡ true) → all n (isIn c s) ≡ true
-    by n f = all-as n (isIn c s) (λ (i : ℕ). true) f ∙ all-true n
