@@ -1,4 +1,5 @@
 pub mod Answers
+pub mod Between
 pub mod Blend
 pub mod Fits
 pub mod Formula

@@ -24,4 +24,5 @@ pub mod Replies
 pub mod Rise
 pub mod Third
 pub mod Walking
+pub mod Whole
 pub mod Within
