@@ -15,8 +15,7 @@ type Bytes = [u8; WIDTH * HEIGHT];
 /// Draws one line, from the first point to the second.
 type Kit = fn(&mut Bytes, Point, Point);
 
-/// From the harbour round the head of the mole and up to the hill. The middle of the line to the head, (14,7) to (16,6),
-/// is at an exact half; the line back has one of its two cells in any case, so that the sheets differ in the other alone.
+/// Invented. The line to [16, 6] has its middle at an exact half, and the next one has one of that middle's two cells.
 const BOUNDARY: [Point; 7] = [[0, 7], [5, 8], [14, 7], [16, 6], [11, 4], [14, 1], [23, 0]];
 
 /// Walks from the end that it is given first, and at an exact half steps away from it.
