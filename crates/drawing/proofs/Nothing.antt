@@ -5,7 +5,7 @@ use mathlib.Core.List.{List, [], _∷_}
 use mathlib.Core.Bool.{true}
 use native.Mathlib.Omega.{arith}
 use lib.ListN.{getD}
-use lib.IntN.{pos}
+use lib.IntN.{ℤ, pos, natAbs}
 use lib.Dec.{T}
 use lib.Ieee.{Float, binary64, ofInt, sub, div, le, lt}
 use Rattle.laws.specs.Below.{all, any}
@@ -15,6 +15,7 @@ use Rattle.sheet.specs.declared.Shape.{Shape}
 use Rattle.sheet.specs.declared.Refusal.the-variants.{Size}
 use Rattle.line.specs.Rule.{lesser, rise, fromLesser, nth, onLine}
 use Rattle.line.specs.Draw.{lineAnswer}
+use Rattle.line.specs.Listing.{listed, listAnswer, listedOver}
 use Rattle.ring.specs.Ring.{around, inEighth, circleRule, slope, nearest, inColumn, ellipseRule}
 use Rattle.ring.specs.Answer.{semiAxis, semiAxes, ringAnswer}
 use Rattle.curve.specs.Rule.{blend, coordinateAt, pointAt, onCurve}
@@ -64,6 +65,11 @@ ellipse-draws e = nothing e
 pub curve-draws : lent ≡ leaves (Curve (cellOf 0 0) (cellOf 0 0) (cellOf 0 0) 0) → ⊥
 unfolding paint byPlace held onSheet cellAt curveAnswer allInLimits joinedInLimits fits inLimits coordinate onCurve all pointAt coordinateAt blend onLine nth fromLesser lesser rise isCell any
 curve-draws e = nothing e
+
+-- and the listing of its one cell (0,0) leaves 0 in a list that was lent as 1
+pub list-draws : pos 1 ∷ [] ≡ settled (listAnswer 1 1 (cellOf 0 0) (cellOf 0 0)) (listedOver (λ c. c .x) (cellOf 0 0) (cellOf 0 0) (pos 1 ∷ [])) (pos 1 ∷ []) → ⊥
+unfolding listAnswer inLimits coordinate listed nth fromLesser lesser rise
+list-draws e = let z : _≡_ {A = ℤ} (pos 1) (pos 0) = ap (λ (s : List ℤ). getD s 0 (pos 0)) e in nothing (λ i. natAbs (sym z i) ∷ [])
 
 -- a file of one line: (0,0) to (0,0) in ink 1
 abbrev oneLine : List ℕ
