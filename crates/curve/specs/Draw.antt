@@ -2,9 +2,8 @@
 use Prim.Native.Nat.{ℕ, _+_, _^_}
 use mathlib.Core.List.{List, [], _∷_}
 use mathlib.Core.Bool.{Bool, true, cond, _&&_}
-use lib.Dec.{leb}
 use Rattle.laws.specs.Below.{all}
-use Rattle.sheet.specs.Sheet.{fits, inLimits}
+use Rattle.sheet.specs.Sheet.{fits, inLimits, split}
 use Rattle.sheet.specs.Reply.{Answer, done, unless}
 use Rattle.sheet.specs.declared.Cell.{Cell}
 use Rattle.sheet.specs.declared.Shape.{Shape}
@@ -15,10 +14,6 @@ use Rattle.curve.specs.Rule.{pointAt}
 unfoldable pub allInLimits : List Cell → Bool
 allInLimits [] = true
 allInLimits (c ∷ cs) = inLimits c && allInLimits cs
-
--- s is 0 to 6
-abbrev pub split : ℕ → Bool
-split s = leb s 6
 
 -- all joined points are; with s above 6 there is no curve, and no joined point
 unfoldable pub joinedInLimits : List Cell → ℕ → Bool

@@ -3,13 +3,12 @@ use Prim.Native.Nat.{ℕ}
 use mathlib.Core.Path.{_≡_, sym, ap, _∙_}
 use mathlib.Core.List.{List}
 use mathlib.Core.Bool.{true}
-use borrow.Author.Tests.{le-leb}
 use lib.ListN.{length}
 use Rattle.sheet.specs.Sheet.{fits, paint}
 use Rattle.sheet.specs.Reply.{Answer, settled}
 use Rattle.sheet.specs.declared.Shape.{Shape}
 use Rattle.line.proofs.Answers.{line-drawn}
-use Rattle.ring.specs.Answer.{semiAxis, semiAxes, ringAnswer}
+use Rattle.ring.specs.Answer.{semiAxes, ringAnswer}
 use Rattle.curve.specs.Draw.{curveAnswer}
 use Rattle.record.specs.declared.types.Figure.{Figure}
 use Rattle.record.specs.declared.types.Figure.the-variants.{Line, Circle, Ellipse, Curve}
@@ -33,9 +32,9 @@ by-kind k ink s t figure f r a e told h =
 -- a figure within the limits whose points are too is drawn on a sheet that fits
 pub figure-drawn : (k : Shape) (n : ℕ) (f : Figure) (drawn before : List ℕ) → fits k n ≡ true → Sound f → joins f ≡ true
     → settled (figureAnswer k n f) drawn before ≡ drawn
-unfolding ringAnswer semiAxes semiAxis curveAnswer
+unfolding ringAnswer semiAxes curveAnswer
 figure-drawn k n (Line a b) drawn before e l j = line-drawn k n a b drawn before e (l .0) (l .1)
-figure-drawn k n (Circle c r) drawn before e l j = simp (e, l .0, le-leb r 16383 (l .1 .1))
+figure-drawn k n (Circle c r) drawn before e l j = simp (e, l .0, l .1)
 figure-drawn k n (Ellipse c a b) drawn before e l j =
-    simp (e, l .0, le-leb 1 a (l .1 .0), le-leb a 16383 (l .1 .1), le-leb 1 b (l .2 .0), le-leb b 16383 (l .2 .1))
-figure-drawn k n (Curve p0 p1 p2 s) drawn before e l j = simp (e, j, le-leb s 6 (l .3 .1))
+    simp (e, l .0, l .1, l .2)
+figure-drawn k n (Curve p0 p1 p2 s) drawn before e l j = simp (e, j, l .3)

@@ -11,7 +11,7 @@ use mir.Syntax.{w32}
 use mir.Val.{SFits, Fits, toZ, ofZ}
 use mir.Facts.{toZ-ofZ}
 use Rattle.laws.proofs.Ints.{ints, back, known, to-cast, is-leZ, no-leZ}
-use Rattle.sheet.specs.Sheet.{fits, inLimits, cellsOn, paint}
+use Rattle.sheet.specs.Sheet.{fits, inLimits, cellsOn, paint, radius}
 use Rattle.sheet.specs.Reply.{Answer, done, refuse, unless, settled}
 use Rattle.sheet.specs.declared.Cell.{Cell}
 use Rattle.sheet.specs.declared.Shape.{Shape}
@@ -21,7 +21,7 @@ use Rattle.sheet.proofs.Unique.{number-not-0}
 use Rattle.line.specs.Rule.{onLine}
 use Rattle.line.specs.Draw.{lineAnswer}
 use Rattle.ring.specs.Ring.{around}
-use Rattle.ring.specs.Answer.{radius, semiAxes, ringAnswer}
+use Rattle.ring.specs.Answer.{semiAxes, ringAnswer}
 use Rattle.survey.specs.Metres.{inCells, toldInCells}
 use Rattle.survey.specs.declared.Survey.{Survey}
 use Rattle.survey.specs.declared.Metres.{Metres}

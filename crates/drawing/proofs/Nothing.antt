@@ -9,7 +9,7 @@ use lib.IntN.{ℤ, pos, natAbs}
 use lib.Dec.{T}
 use lib.Ieee.{Float, binary64, ofInt, sub, div, le, lt}
 use Rattle.laws.specs.Below.{all, any}
-use Rattle.sheet.specs.Sheet.{fits, onSheet, cellAt, held, byPlace, paint, coordinate, inLimits, isCell, cellOf}
+use Rattle.sheet.specs.Sheet.{fits, onSheet, cellAt, held, byPlace, paint, coordinate, inLimits, isCell, cellOf, semiAxis}
 use Rattle.sheet.specs.Reply.{unless, settled}
 use Rattle.sheet.specs.declared.Shape.{Shape}
 use Rattle.sheet.specs.declared.Refusal.the-variants.{Size}
@@ -17,7 +17,7 @@ use Rattle.line.specs.Rule.{lesser, rise, fromLesser, nth, onLine}
 use Rattle.line.specs.Draw.{lineAnswer}
 use Rattle.line.specs.Listing.{listed, listAnswer, listedOver}
 use Rattle.ring.specs.Ring.{around, inEighth, circleRule, slope, nearest, inColumn, ellipseRule}
-use Rattle.ring.specs.Answer.{semiAxis, semiAxes, ringAnswer}
+use Rattle.ring.specs.Answer.{semiAxes, ringAnswer}
 use Rattle.curve.specs.Rule.{blend, coordinateAt, pointAt, onCurve}
 use Rattle.curve.specs.Draw.{allInLimits, joinedInLimits, curveAnswer}
 use Rattle.survey.specs.Cell.{isCellOf, findCell}

@@ -4,14 +4,14 @@ use mathlib.Core.List.{[], _∷_}
 use mathlib.Core.Bool.{Bool, false, _&&_}
 use lib.IntN.{ℤ, pos, natAbs}
 use lib.Signed.{leZ}
-use Rattle.sheet.specs.Sheet.{fits, cellsOn}
+use Rattle.sheet.specs.Sheet.{fits, cellsOn, radius}
 use Rattle.sheet.specs.Reply.{Answer, done, refuse, unless}
 use Rattle.sheet.specs.declared.Cell.{Cell}
 use Rattle.sheet.specs.declared.Shape.{Shape}
 use Rattle.sheet.specs.declared.Refusal.the-variants.{Size, Radius}
 use Rattle.line.specs.Rule.{onLine}
 use Rattle.ring.specs.Ring.{onCircle, onEllipse}
-use Rattle.ring.specs.Answer.{radius, semiAxes}
+use Rattle.ring.specs.Answer.{semiAxes}
 use Rattle.survey.specs.Metres.{inCells}
 use Rattle.survey.specs.declared.Survey.{Survey}
 use Rattle.survey.specs.declared.Metres.{Metres}

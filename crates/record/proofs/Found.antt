@@ -6,20 +6,20 @@ use mathlib.Core.Bool.{Bool, true, false, cond}
 use native.Mathlib.Omega.{arith}
 use borrow.Author.Tests.{leb-true, leb-false}
 use lib.Dec.{leb, eqb}
-use lib.IntN.{ℤ}
+use lib.IntN.{ℤ, natAbs}
 use lib.ListN.{length}
 use Rattle.sheet.specs.Sheet as sheet
 use Rattle.sheet.specs.declared.Refusal.{Refusal}
-use Rattle.record.specs.Layout.{Field, ink, coordinate, radius, axis, pieces, Row, wordAt, width, valueAt, isRadius, isAxis, isPieces, lineRow, circleRow, ellipseRow, curveRow, table}
+use Rattle.record.specs.Layout.{Field, ink, coordinate, radius, axis, pieces, Row, wordAt, width, valueAt, lineRow, circleRow, ellipseRow, curveRow, table}
 use Rattle.record.specs.Reading.{Found, found, end, refused, unlessAt, valuesFrom, limited, limitedFrom, rowFound, kindFound, payloadAt, foundAt}
 
 -- a field's value within its limits, and those of fields that follow each other from k on
 abbrev pub Limited : Field → ℤ → Type 0
 Limited ink z = Unit {0}
 Limited coordinate z = sheet.coordinate z ≡ true
-Limited radius z = isRadius z ≡ true
-Limited axis z = isAxis z ≡ true
-Limited pieces z = isPieces z ≡ true
+Limited radius z = sheet.radius (natAbs z) ≡ true
+Limited axis z = sheet.semiAxis (natAbs z) ≡ true
+Limited pieces z = sheet.split (natAbs z) ≡ true
 
 unfoldable pub LimitedFrom : List Field → List ℕ → ℕ → Type 0
 LimitedFrom [] p k = Unit {0}
@@ -36,9 +36,9 @@ module _ (P : Found → Type 0) (no : (r : Refusal) (at : ℕ) → P (refused r 
   limited-has : (g : Field) (z : ℤ) (at : ℕ) (f : Found) → (Limited g z → P f) → P (limited g z at f)
   limited-has ink z at f h = h tt
   limited-has coordinate z at f h = passing (sheet.coordinate z) _ at f h
-  limited-has radius z at f h = passing (isRadius z) _ at f h
-  limited-has axis z at f h = passing (isAxis z) _ at f h
-  limited-has pieces z at f h = passing (isPieces z) _ at f h
+  limited-has radius z at f h = passing (sheet.radius (natAbs z)) _ at f h
+  limited-has axis z at f h = passing (sheet.semiAxis (natAbs z)) _ at f h
+  limited-has pieces z at f h = passing (sheet.split (natAbs z)) _ at f h
 
   fields-have : (fs : List Field) (p : List ℕ) (k at : ℕ) (f : Found) → (LimitedFrom fs p k → P f) → P (limitedFrom fs p k at f)
   unfolding limitedFrom LimitedFrom

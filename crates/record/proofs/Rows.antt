@@ -5,14 +5,12 @@ use mathlib.Core.List.{List}
 use mathlib.Core.Bool.{Bool, true, false, cond, _&&_}
 use native.Mathlib.Omega.{arith}
 use borrow.Author.Tests.{eq-eqb, ne-eqb}
-use lib.Dec.{leb, leb·zero}
-use lib.IntN.{pos}
 use lib.ListN.{length, getD}
-use Rattle.sheet.specs.Sheet.{inLimits}
+use Rattle.sheet.specs.Sheet.{inLimits, radius, semiAxis, split}
 use Rattle.sheet.specs.declared.Cell.{Cell}
 use Rattle.sheet.specs.declared.Refusal.{Refusal}
 use Rattle.sheet.specs.declared.Refusal.the-variants.{Coordinate, Radius, Pieces, Length}
-use Rattle.record.specs.Layout.{Row, wordAt, isAxis, cellAt, lineRow, circleRow, ellipseRow, curveRow}
+use Rattle.record.specs.Layout.{Row, wordAt, cellAt, lineRow, circleRow, ellipseRow, curveRow}
 use Rattle.record.specs.Reading.{Found, unlessAt, valuesFrom, limitedFrom, rowFound, readOf}
 use Rattle.record.specs.declared.types.Figure.the-variants.{Line, Circle, Ellipse, Curve}
 use Rattle.record.specs.declared.types.Read.the-variants.{Record, Refused}
@@ -45,17 +43,17 @@ module _ (p : List ℕ) (at next : ℕ) where
   pub circle-found : (centre : Cell) (r : ℕ) → length p ≡ 7 → centre ≡ cellAt p 1 → r ≡ wordAt p 5
       → readOf (rowFound circleRow p at next) ≡
       cond (inLimits centre)
-      (cond (leb r 16383)
+      (cond (radius r)
       (Record (record { offset = at; next = next; ink = getD p 0 0; figure = Circle centre r }))
       (Refused Radius at)) (Refused Coordinate at)
   unfolding rowFound limitedFrom valuesFrom circleRow inLimits
-  circle-found centre r h e f = rw (e, f) (simp (eq-eqb (2 + length p) 9 (omega arith), both, read-unless, leb·zero))
+  circle-found centre r h e f = rw (e, f) (simp (eq-eqb (2 + length p) 9 (omega arith), both, read-unless))
 
   pub ellipse-found : (centre : Cell) (a b : ℕ) → length p ≡ 9 → centre ≡ cellAt p 1 → a ≡ wordAt p 5 → b ≡ wordAt p 7
       → readOf (rowFound ellipseRow p at next) ≡
       cond (inLimits centre)
-      (cond (isAxis (pos a))
-      (cond (isAxis (pos b))
+      (cond (semiAxis a)
+      (cond (semiAxis b)
       (Record (record { offset = at; next = next; ink = getD p 0 0; figure = Ellipse centre a b }))
       (Refused Radius at)) (Refused Radius at)) (Refused Coordinate at)
   unfolding rowFound limitedFrom valuesFrom ellipseRow inLimits
@@ -66,8 +64,8 @@ module _ (p : List ℕ) (at next : ℕ) where
       cond (inLimits p0)
       (cond (inLimits p1)
       (cond (inLimits p2)
-      (cond (leb s 6)
+      (cond (split s)
       (Record (record { offset = at; next = next; ink = getD p 0 0; figure = Curve p0 p1 p2 s }))
       (Refused Pieces at)) (Refused Coordinate at)) (Refused Coordinate at)) (Refused Coordinate at)
   unfolding rowFound limitedFrom valuesFrom curveRow inLimits
-  curve-found p0 p1 p2 s h e f g k = rw (e, f, g, k) (simp (eq-eqb (2 + length p) 16 (omega arith), both, read-unless, leb·zero))
+  curve-found p0 p1 p2 s h e f g k = rw (e, f, g, k) (simp (eq-eqb (2 + length p) 16 (omega arith), both, read-unless))

@@ -2,12 +2,10 @@
 use Prim.Native.Nat.{ℕ, _+_, _≤_}
 use mathlib.Core.Path.{_≡_, refl, sym, subst}
 use mathlib.Core.List.{List}
-use mathlib.Core.Bool.{true, _&&_}
-use lib.Dec.{leb, leb→le}
+use mathlib.Core.Bool.{true}
 use lib.IntN.{ℤ}
 use lib.ListN.{length}
-use Rattle.laws.proofs.Tests.{and-l, and-r, from-true}
-use Rattle.sheet.specs.Sheet.{coordinate, inLimits}
+use Rattle.sheet.specs.Sheet.{coordinate, inLimits, radius, semiAxis, split}
 use Rattle.record.specs.Layout.{Row, wordAt, lineRow, circleRow, ellipseRow, curveRow}
 use Rattle.record.specs.Reading.{Found, valuesFrom, payloadAt, readOf, readAt}
 use Rattle.record.specs.declared.types.Figure.{Figure}
@@ -17,16 +15,12 @@ use Rattle.record.specs.declared.types.Read.{Read}
 use Rattle.record.specs.declared.types.Read.the-variants as read
 use Rattle.record.proofs.Found.{LimitedFrom, Made, kind-has, found-has}
 
--- from the least to the most that a number may be
-abbrev pub Between : ℕ → ℕ → ℕ → Type 0
-Between least most n = (least ≤ n) × (n ≤ most)
-
 -- no drawing refuses the figure for its fields
 abbrev pub Sound : Figure → Type 0
 Sound (Line a b) = (inLimits a ≡ true) × (inLimits b ≡ true)
-Sound (Circle c r) = (inLimits c ≡ true) × Between 0 16383 r
-Sound (Ellipse c a b) = (inLimits c ≡ true) × Between 1 16383 a × Between 1 16383 b
-Sound (Curve p q r s) = (inLimits p ≡ true) × (inLimits q ≡ true) × (inLimits r ≡ true) × Between 0 6 s
+Sound (Circle c r) = (inLimits c ≡ true) × (radius r ≡ true)
+Sound (Ellipse c a b) = (inLimits c ≡ true) × (semiAxis a ≡ true) × (semiAxis b ≡ true)
+Sound (Curve p q r s) = (inLimits p ≡ true) × (inLimits q ≡ true) × (inLimits r ≡ true) × (split s ≡ true)
 
 -- the record stands at the offset of the file
 pub record Stands (s : List ℕ) (at : ℕ) (r : Record) : Type 0 where
@@ -39,11 +33,6 @@ cell : (x y : ℤ) → coordinate x ≡ true → coordinate y ≡ true → inLim
 unfolding inLimits
 cell x y a b = simp (a, b)
 
-between : (least most n : ℕ) → (leb least n && leb n most) ≡ true → Between least most n
-between least most n e =
-    let t = from-true (leb least n && leb n most) e in
-    (leb→le least n (and-l (leb least n) (leb n most) t), leb→le n most (and-r (leb least n) (leb n most) t))
-
 -- the figure of a row, where the fields of its payload are within their limits
 abbrev RowSound : Row → List ℕ → Type 0
 RowSound row p = LimitedFrom (row .payload) p 0 → Sound (row .figure (valuesFrom (row .payload) p 0))
@@ -55,20 +44,20 @@ module _ (p : List ℕ) where
 
   circle-sound : RowSound circleRow p
   unfolding LimitedFrom valuesFrom circleRow
-  circle-sound l = (cell _ _ (l .1 .0) (l .1 .1 .0), between 0 16383 _ (l .1 .1 .1 .0))
+  circle-sound l = (cell _ _ (l .1 .0) (l .1 .1 .0), l .1 .1 .1 .0)
 
   ellipse-sound : RowSound ellipseRow p
   unfolding LimitedFrom valuesFrom ellipseRow
   ellipse-sound l =
       let a = l .1 .1 .1 in
-      (cell _ _ (l .1 .0) (l .1 .1 .0), between 1 16383 _ (a .0), between 1 16383 _ (a .1 .0))
+      (cell _ _ (l .1 .0) (l .1 .1 .0), a .0, a .1 .0)
 
   curve-sound : RowSound curveRow p
   unfolding LimitedFrom valuesFrom curveRow
   curve-sound l =
       let p1 = l .1 .1 .1 in
       let p2 = p1 .1 .1 in
-      (cell _ _ (l .1 .0) (l .1 .1 .0), cell _ _ (p1 .0) (p1 .1 .0), cell _ _ (p2 .0) (p2 .1 .0), between 0 6 _ (p2 .1 .1 .0))
+      (cell _ _ (l .1 .0) (l .1 .1 .0), cell _ _ (p1 .0) (p1 .1 .0), cell _ _ (p2 .0) (p2 .1 .0), p2 .1 .1 .0)
 
 module _ (s : List ℕ) (at : ℕ) where
   abbrev IfRecord : Read → Type 0

@@ -1,11 +1,10 @@
 -- Document 01, "Record file": the table of kinds, and how the fields of a payload are held.
 use Prim.Native.Nat.{ℕ, _+_, _*_}
 use mathlib.Core.List.{List, [], _∷_}
-use mathlib.Core.Bool.{Bool, cond, _&&_}
+use mathlib.Core.Bool.{cond}
 use lib.Dec.{ltb}
 use lib.IntN.{ℤ, pos, natAbs, _-ℤ_}
 use lib.ListN.{getD}
-use lib.Signed.{leZ}
 use Rattle.sheet.specs.declared.Cell.{Cell}
 use Rattle.record.specs.declared.types.Figure.{Figure}
 use Rattle.record.specs.declared.types.Figure.the-variants.{Line, Circle, Ellipse, Curve}
@@ -39,16 +38,6 @@ valueAt coordinate s k = signed (wordAt s k)
 valueAt radius s k = pos (wordAt s k)
 valueAt axis s k = pos (wordAt s k)
 valueAt pieces s k = pos (getD s k 0)
-
--- Circle radius is 0 to 16,383; each ellipse semi-axis is 1 to 16,383; s from 0 to 6.
-abbrev pub isRadius : ℤ → Bool
-isRadius z = leZ (pos 0) z && leZ z (pos 16383)
-
-abbrev pub isAxis : ℤ → Bool
-isAxis z = leZ (pos 1) z && leZ z (pos 16383)
-
-abbrev pub isPieces : ℤ → Bool
-isPieces z = leZ (pos 0) z && leZ z (pos 6)
 
 -- the cell of a value and the next, and a value that is no coordinate
 abbrev pub cellIn : List ℤ → ℕ → Cell

@@ -3,14 +3,14 @@ use Prim.Native.Nat.{ℕ, _+_, _-_}
 use mathlib.Core.List.{List, [], _∷_}
 use mathlib.Core.Bool.{Bool, cond}
 use lib.Dec.{leb, eqb}
-use lib.IntN.{ℤ, pos}
+use lib.IntN.{ℤ, pos, natAbs}
 use lib.ListN.{length, take, drop}
 use Rattle.sheet.specs.Sheet as sheet
 use Rattle.sheet.specs.Reply.{Answer, number, done}
 use Rattle.sheet.specs.declared.Cell.{Cell}
 use Rattle.sheet.specs.declared.Refusal.{Refusal}
 use Rattle.sheet.specs.declared.Refusal.the-variants.{Coordinate, Radius, Pieces, Short, Kind, Length}
-use Rattle.record.specs.Layout.{Field, ink, coordinate, radius, axis, pieces, Row, wordAt, width, valueAt, isRadius, isAxis, isPieces, numberIn, table}
+use Rattle.record.specs.Layout.{Field, ink, coordinate, radius, axis, pieces, Row, wordAt, width, valueAt, numberIn, table}
 use Rattle.record.specs.declared.types.Figure.{Figure}
 use Rattle.record.specs.declared.types.Figure.the-variants.{Line, Circle, Ellipse, Curve}
 use Rattle.record.specs.declared.types.Read.{Read}
@@ -31,13 +31,13 @@ unfoldable pub valuesFrom : List Field → List ℕ → ℕ → List ℤ
 valuesFrom [] p k = []
 valuesFrom (f ∷ fs) p k = valueAt f p k ∷ valuesFrom fs p (k + width f)
 
--- a field within its limits; else 2 for a coordinate, 3 for a radius or semi-axis, 4 for s
+-- a field within its limits, of which only a coordinate may be below 0; else 2 for a coordinate, 3 for a radius or semi-axis, 4 for s
 abbrev pub limited : Field → ℤ → ℕ → Found → Found
 limited ink z at rest = rest
 limited coordinate z at rest = unlessAt (sheet.coordinate z) Coordinate at rest
-limited radius z at rest = unlessAt (isRadius z) Radius at rest
-limited axis z at rest = unlessAt (isAxis z) Radius at rest
-limited pieces z at rest = unlessAt (isPieces z) Pieces at rest
+limited radius z at rest = unlessAt (sheet.radius (natAbs z)) Radius at rest
+limited axis z at rest = unlessAt (sheet.semiAxis (natAbs z)) Radius at rest
+limited pieces z at rest = unlessAt (sheet.split (natAbs z)) Pieces at rest
 
 -- each field from k on in turn
 unfoldable pub limitedFrom : List Field → List ℕ → ℕ → ℕ → Found → Found

@@ -9,9 +9,9 @@ pub use types::Read;
 pub use types::Record;
 ghost use mathlib.Core.Path.{_≡_};
 ghost use Prim.Native.Nat.{_+_, _*_, _<_};
-ghost use lib.IntN.{pos};
 ghost use lib.ListN.{length};
-ghost use Rattle.record.specs.Layout.{wordAt, signed, isAxis, cellAt, lineRow, circleRow, ellipseRow, curveRow, table};
+ghost use Rattle.sheet.specs.Sheet.{semiAxis};
+ghost use Rattle.record.specs.Layout.{wordAt, signed, cellAt, lineRow, circleRow, ellipseRow, curveRow, table};
 ghost use Rattle.record.specs.Reading.{rowFound, kindFound, readOf, readAt, readAnswer, toldRead};
 ghost use Rattle.record.specs.File.{closedBy, fileAnswer, toldChecked};
 
@@ -62,7 +62,7 @@ fn cell_at(bytes: &[u8], k: usize) -> Cell
 
 // Whether a number is within the limits of a semi-axis.
 fn is_axis(n: u32) -> bool
-    ensures { λ r. ⌜ r ≡ isAxis (pos n) ⌝ }
+    ensures { λ r. ⌜ r ≡ semiAxis n ⌝ }
 {
     if n < 1 {
         return false;

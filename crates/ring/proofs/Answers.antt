@@ -6,7 +6,7 @@ use mathlib.Core.Bool.{Bool, true, false, _&&_}
 use lib.ListN.{length}
 use lib.Dec.{T, leb, leb→le}
 use Rattle.laws.proofs.Tests.{and-l, and-r, from-true}
-use Rattle.sheet.specs.Sheet.{fits, inLimits, paint}
+use Rattle.sheet.specs.Sheet.{fits, inLimits, paint, radius, semiAxis}
 use Rattle.sheet.specs.Reply.{done, refuse, settled}
 use Rattle.sheet.specs.Inner.{movedCell, unmovedCell}
 use Rattle.sheet.specs.declared.Cell.{Cell}
@@ -15,7 +15,7 @@ use Rattle.sheet.specs.declared.Spot.{Spot}
 use Rattle.sheet.specs.declared.Refusal.the-variants.{Size, Coordinate, Radius}
 use Rattle.sheet.proofs.Limits.{lifted-cell}
 use Rattle.ring.specs.Ring.{around}
-use Rattle.ring.specs.Answer.{radius, semiAxis, semiAxes, ringAnswer}
+use Rattle.ring.specs.Answer.{semiAxes, ringAnswer}
 use Rattle.ring.specs.Inner.{Centred}
 
 module _ (k : Shape) (ink : ℕ) (c : Cell) (limits : Bool) (rule : ℕ → ℕ → Bool) (s : List ℕ) where

@@ -2,21 +2,13 @@
 use Prim.Native.Nat.{ℕ}
 use mathlib.Core.List.{[]}
 use mathlib.Core.Bool.{Bool, _&&_}
-use lib.Dec.{leb}
-use Rattle.sheet.specs.Sheet.{fits, inLimits}
+use Rattle.sheet.specs.Sheet.{fits, inLimits, radius, semiAxis}
 use Rattle.sheet.specs.Reply.{Answer, done, unless}
 use Rattle.sheet.specs.declared.Cell.{Cell}
 use Rattle.sheet.specs.declared.Shape.{Shape}
 use Rattle.sheet.specs.declared.Refusal.the-variants.{Size, Coordinate, Radius}
 
--- Circle radius is 0 to 16,383.
-abbrev pub radius : ℕ → Bool
-radius r = leb r 16383
-
--- Each ellipse semi-axis is 1 to 16,383.
-unfoldable pub semiAxis : ℕ → Bool
-semiAxis a = leb 1 a && leb a 16383
-
+-- both semi-axes of an ellipse are within their limits
 unfoldable pub semiAxes : ℕ → ℕ → Bool
 semiAxes a b = semiAxis a && semiAxis b
 

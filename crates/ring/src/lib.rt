@@ -2,12 +2,12 @@
 ghost use mathlib.Core.Path.{_≡_};
 ghost use Prim.Native.Nat.{_≤_, _<_};
 ghost use lib.ListN.{length};
-ghost use Rattle.sheet.specs.Sheet.{paint};
+ghost use Rattle.sheet.specs.Sheet.{paint, radius, semiAxis};
 ghost use Rattle.sheet.specs.Reply.{settled};
 ghost use Rattle.sheet.specs.Drawn.{toldDrawn};
 ghost use Rattle.sheet.specs.Inner.{unmovedCell};
 ghost use Rattle.ring.specs.Ring.{around, circleRule, ellipseRule, onCircle, onEllipse};
-ghost use Rattle.ring.specs.Answer.{radius, semiAxis, semiAxes, circleAnswer, ellipseAnswer};
+ghost use Rattle.ring.specs.Answer.{semiAxes, circleAnswer, ellipseAnswer};
 ghost use Rattle.ring.specs.Inner.{edge, Least, Centred, isOffset, turned, columns};
 use sheet::Cell;
 use sheet::Drawn;

@@ -61,6 +61,17 @@ coordinate z = leZ (negℤ (pos 16384)) z && leZ z (pos 16383)
 unfoldable pub inLimits : Cell → Bool
 inLimits c = coordinate (c .x) && coordinate (c .y)
 
+-- Circle radius is 0 to 16,383; each ellipse semi-axis is 1 to 16,383.
+abbrev pub radius : ℕ → Bool
+radius r = leb r 16383
+
+unfoldable pub semiAxis : ℕ → Bool
+semiAxis a = leb 1 a && leb a 16383
+
+-- A curve is split into n = 2^s pieces, s from 0 to 6.
+abbrev pub split : ℕ → Bool
+split s = leb s 6
+
 -- the figure of one cell
 unfoldable pub isCell : Cell → Cell → Bool
 isCell c d = eqZ (d .x) (c .x) && eqZ (d .y) (c .y)

@@ -1,12 +1,15 @@
 -- `record::is_axis` meets its contract.
 use borrow.Author.Tests.{lt-leb, le-leb}
+use Rattle.sheet.specs.Sheet.{semiAxis}
 use Rattle.record.proofs.is_axis.Statement.{statement}
 use Rattle.record.proofs.is_axis.Tie as tie
 
 returns : tie.Need-returns
+unfolding semiAxis
 returns c = simp (lt-leb _ _ (c .if1 .taken))
 
 returns-2 : tie.Need-returns-2
+unfolding semiAxis
 returns-2 c = simp (le-leb _ _ (c .if1 .left))
 
 pub is-axis-spec : {M : Type 1} → statement M

@@ -2,7 +2,7 @@
 use denote.Ref.{now}
 use Rattle.laws.proofs.Tests.{no, yes}
 use Rattle.ring.specs.Ring.{circleRule}
-use Rattle.ring.specs.Answer.{radius}
+use Rattle.sheet.specs.Sheet.{radius}
 use Rattle.ring.proofs.Answers.{ring-size, ring-coordinate, ring-radius, ring-done, centred, radius-is}
 use borrow.Author.Needs.{needs}
 use Rattle.ring.proofs.draw_circle.Statement.{statement}

@@ -1,6 +1,6 @@
 -- `ring::is_semi_axis` meets its contract.
 use borrow.Author.Tests.{lt-leb, le-leb}
-use Rattle.ring.specs.Answer.{semiAxis}
+use Rattle.sheet.specs.Sheet.{semiAxis}
 use Rattle.ring.proofs.is_semi_axis.Statement.{statement}
 use Rattle.ring.proofs.is_semi_axis.Tie as tie
 

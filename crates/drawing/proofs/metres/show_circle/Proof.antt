@@ -5,7 +5,7 @@ use mir.Facts.{toZ-ofZ}
 use denote.Ref.{now}
 use borrow.Author.Needs.{needs}
 use Rattle.ring.specs.Ring.{circleRule}
-use Rattle.ring.specs.Answer.{radius}
+use Rattle.sheet.specs.Sheet.{radius}
 use Rattle.drawing.proofs.InMetres.{below, not-below, casts, radius-below, radius-as, ring-shown, ring-outside}
 use Rattle.drawing.proofs.metres.show_circle.Statement.{statement}
 use Rattle.drawing.proofs.metres.show_circle.Tie as tie
