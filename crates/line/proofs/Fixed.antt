@@ -10,7 +10,7 @@ use lib.Dec.{ltb}
 use Rattle.laws.proofs.Floor.{div-is, div-low, div-high}
 use Rattle.laws.proofs.Products.{mul-lt-back}
 use Rattle.line.specs.Rule.{rise}
-use Rattle.line.specs.Fixed.{slope, tally}
+use Rattle.line.specs.Fixed.{slope, gone, tally}
 use Rattle.line.proofs.Rise.{rise-low, rise-high, rise-start}
 
 -- the bounds that make the slope
@@ -72,9 +72,9 @@ slope-none zero s a = sym (div-zero (s * 4294967295))
 slope-none (suc l) s a = absurd (omega arith)
 
 -- where a walk starts
-pub tally-is : (l s n f t : ℕ) → f ≡ slope l s → t ≡ n * f + (2147483648 + 2 * l) → t ≡ tally l s n
+pub tally-is : (l s n f t : ℕ) → f ≡ slope l s → t ≡ gone l f n → t ≡ tally l s n
 unfolding tally
-tally-is l s n f t a b = b ∙ ap (λ (z : ℕ). n * z + (2147483648 + 2 * l)) a
+tally-is l s n f t a b = b ∙ ap (λ (z : ℕ). gone l z n) a
 
 -- a turn adds the slope
 pub tally-next : (l s n : ℕ) → tally l s (n + 1) ≡ tally l s n + slope l s

@@ -6,6 +6,7 @@ use lib.IntN.{ℤ}
 use Rattle.sheet.specs.Inner.{Moved, unmoved, unmovedCell}
 use Rattle.sheet.specs.declared.Cell.{Cell}
 use Rattle.line.specs.Course.{stepped, spotAt}
+use Rattle.line.specs.Fixed.{gone}
 use Rattle.line.specs.declared.Course.{Course}
 
 -- the first n places hold g 0, .., g (n − 1), and the others what stood there
@@ -17,10 +18,6 @@ over g (suc n) (v ∷ s) = g 0 ∷ over (λ (k : ℕ). g (suc k)) n s
 -- which cell of a line, counted from its lesser end, stands at the ith place: the first named end is the lesser or not
 abbrev pub numberAt : Bool → ℕ → ℕ → ℕ
 numberAt first l i = cond first i (l - i)
-
--- what n steps of f come to, in parts of 2^32, with a half and a little more
-abbrev pub gone : ℕ → ℕ → ℕ → ℕ
-gone l f n = n * f + (2147483648 + 2 * l)
 
 -- the coordinate that far from m, up or down, in parts of 2^32
 abbrev pub reached : Bool → ℕ → ℕ → ℕ

@@ -5,6 +5,10 @@ use Prim.Native.Nat.{ℕ, _+_, _*_, _/_}
 unfoldable pub slope : ℕ → ℕ → ℕ
 slope l s = s * 4294967295 / l
 
--- what n of them come to, with a half and a little more: the whole part is `rise l s n`
+-- what n steps of f come to, with a half and a little more
+abbrev pub gone : ℕ → ℕ → ℕ → ℕ
+gone l f n = n * f + (2147483648 + 2 * l)
+
+-- of the slope: the whole part is `rise l s n`
 unfoldable pub tally : ℕ → ℕ → ℕ → ℕ
-tally l s n = n * slope l s + (2147483648 + 2 * l)
+tally l s n = gone l (slope l s) n

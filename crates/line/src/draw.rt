@@ -11,6 +11,7 @@ ghost use Rattle.sheet.specs.Inner.{Sheet};
 ghost use Rattle.line.specs.Rule.{rise, onLine};
 ghost use Rattle.line.specs.Draw.{lineAnswer};
 ghost use Rattle.line.specs.Course.{spotAt, Runs, firstCells};
+ghost use Rattle.line.specs.Fixed.{gone};
 ghost use Rattle.line.specs.Span.{enters, leaves, Least, Enters, Leaves, On, Spans, byteOf, aloneBy, bothBy};
 use crate::Course;
 use crate::chosen;
@@ -103,7 +104,7 @@ fn past_n(shape: Shape, course: Course) -> u32
 // What n steps of f come to in parts of 2^32, with a half and a little more: the whole part is the nth cell's steps along the shorter extent.
 fn tally_at(l: u32, f: u32, n: u32) -> u64
     requires { ⌜ (n ≤ l) × (l ≤ 32767) ⌝ }
-    ensures { λ r. ⌜ (r ≡ n * f + (2147483648 + 2 * l)) × (r < 281474976710656) ⌝ }
+    ensures { λ r. ⌜ (r ≡ gone l f n) × (r < 281474976710656) ⌝ }
 {
     n as u64 * f as u64 + (2147483648 + 2 * l as u64)
 }
