@@ -1,0 +1,294 @@
+//! Inputs of the library made at random: sound ones, and ones at and beyond every limit.
+use crate::case::{Case, Job, Size, MOST_BYTES};
+use crate::metres::{Metres, Survey};
+use crate::native::Cells;
+use crate::random::Random;
+
+impl Case {
+    pub fn figure(seed: u64) -> Case {
+        let mut random = Random(seed);
+        let job = match random.number() % 9 {
+            0 => list(&mut random),
+            kind => {
+                let size = size(&mut random);
+                let ink = random.number() as u8;
+                match kind {
+                    1 | 2 => Job::Cells(size, ink, line(&mut random, size)),
+                    3 => Job::Cells(size, ink, circle(&mut random, size)),
+                    4 => Job::Cells(size, ink, ellipse(&mut random, size)),
+                    5 => Job::Cells(size, ink, curve(&mut random, size)),
+                    _ => in_metres(&mut random, size, ink, kind),
+                }
+            }
+        };
+        Case { fill: random.number(), job }
+    }
+
+    pub fn file(seed: u64) -> Case {
+        let mut random = Random(seed);
+        let size = size(&mut random);
+        let bytes = file(&mut random, size);
+        Case { fill: random.number(), job: Job::File(size, bytes) }
+    }
+}
+
+fn size(random: &mut Random) -> Size {
+    let most = random.one_of(&[4, 16, 16, 64, 64]);
+    let (mut width, mut height) = (random.within(1, most), random.within(1, most));
+    match random.number() % 4000 {
+        0 => (width, height) = (random.within(1, 4096), random.within(1, 4096)),
+        1 => (width, height) = (4096, 4096),
+        2..100 => width = random.one_of(&[4096, 4095, 1000, 300]),
+        100..200 => height = random.one_of(&[4096, 4095, 1000, 300]),
+        _ => {}
+    }
+    let mut len = (width * height) as usize;
+    if random.once_in(40) {
+        let strange = random.one_of(&[0, 4097, 5000, 65_536, i64::from(i32::MAX), i64::from(u32::MAX)]);
+        match random.number() % 3 {
+            0 => width = strange,
+            1 => height = strange,
+            _ => (width, height) = (strange, strange),
+        }
+        // the length that a product of 32 bits would have, where it can be lent
+        let product = (width as u32).wrapping_mul(height as u32) as usize;
+        if product <= 1 << 20 {
+            len = product;
+        }
+    }
+    if random.once_in(40) {
+        let other = random.within(0, 5000) as usize;
+        len = random.one_of(&[0, 1, len.saturating_sub(1), len + 1, len + width.min(4096) as usize, len / 2, other]);
+    }
+    Size { len: len.min(MOST_BYTES), width: width as u32, height: height as u32 }
+}
+
+/// A coordinate on or near a side of this length, or far from it, or beyond the limits.
+fn coordinate(random: &mut Random, side: u32) -> i32 {
+    let side = i64::from(side.clamp(1, 4096));
+    let chosen = match random.number() % 64 {
+        0 => {
+            random.one_of(&[16_384, -16_385, 16_385, 32_767, -32_768, 49_152, i64::from(i32::MAX), i64::from(i32::MIN)])
+        }
+        1..4 => random.one_of(&[16_383, -16_384, 16_382, -16_383]),
+        4..10 => random.within(-16_384, 16_383),
+        10..20 => random.within(-1000, 1000),
+        20..40 => random.within(-side, 2 * side),
+        _ => random.within(0, side - 1),
+    };
+    chosen as i32
+}
+
+/// A radius or semi-axis of any size, for a sheet with this side.
+fn radius(random: &mut Random, side: u32) -> u32 {
+    let side = i64::from(side.clamp(1, 4096));
+    let chosen = match random.number() % 32 {
+        0 => random.one_of(&[16_384, 16_385, 32_768, 65_535, 65_536, 70_000, i64::from(u32::MAX), 1 << 31]),
+        1 => random.within(0, 70_000),
+        2 => random.one_of(&[16_383, 16_382]),
+        3..6 => random.within(0, 16_383),
+        6..12 => random.one_of(&[0, 1, 2, 3]),
+        _ => random.within(0, side),
+    };
+    chosen as u32
+}
+
+/// How far a cell of the sheet, any of them, is from this one.
+fn to_the_sheet(random: &mut Random, size: Size, [x, y]: [i32; 2]) -> [f64; 2] {
+    let mut far = |side: u32, from: i32| {
+        let on = random.within(0, i64::from(side.clamp(1, 4096)) - 1);
+        on.abs_diff(i64::from(from)) as f64
+    };
+    [far(size.width, x), far(size.height, y)]
+}
+
+fn point(random: &mut Random, size: Size) -> [i32; 2] {
+    [coordinate(random, size.width), coordinate(random, size.height)]
+}
+
+fn line(random: &mut Random, size: Size) -> Cells {
+    let ([x0, y0], [mut x1, mut y1]) = (point(random, size), point(random, size));
+    match random.number() % 16 {
+        0 => (x1, y1) = (x0, y0),
+        1 => y1 = y0,
+        2 => x1 = x0,
+        3 => y1 = y0.wrapping_add(x1.wrapping_sub(x0)),
+        // through a cell of the sheet to as far behind it
+        4..8 => {
+            let mut behind = |from: i32, side: u32| {
+                let through = random.within(0, i64::from(side.clamp(1, 4096)) - 1);
+                let about = 2 * through - i64::from(from) + random.within(-3, 3);
+                about.clamp(-16_384, 16_383) as i32
+            };
+            (x1, y1) = (behind(x0, size.width), behind(y0, size.height));
+        }
+        _ => {}
+    }
+    Cells::Line([x0, y0, x1, y1])
+}
+
+fn circle(random: &mut Random, size: Size) -> Cells {
+    let centre = point(random, size);
+    if random.once_in(2) {
+        return Cells::Circle(centre, radius(random, size.width));
+    }
+    let [x, y] = to_the_sheet(random, size, centre);
+    Cells::Circle(centre, (x * x + y * y).sqrt() as u32)
+}
+
+fn ellipse(random: &mut Random, size: Size) -> Cells {
+    let centre = point(random, size);
+    if random.once_in(2) {
+        return Cells::Ellipse(centre, radius(random, size.width), radius(random, size.height));
+    }
+    // the semi-axes for which x / a = part and y / b is what is left
+    let [x, y] = to_the_sheet(random, size, centre);
+    let part = random.within(1, 63) as f64 / 64.0;
+    Cells::Ellipse(centre, (x / part) as u32, (y / (1.0 - part * part).sqrt()) as u32)
+}
+
+fn curve(random: &mut Random, size: Size) -> Cells {
+    let [[x0, y0], [x1, y1], [x2, y2]] = [(); 3].map(|()| point(random, size));
+    Cells::Curve([x0, y0, x1, y1, x2, y2], pieces(random))
+}
+
+fn pieces(random: &mut Random) -> u32 {
+    match random.number() % 32 {
+        0 => random.within(7, 255) as u32,
+        1 => random.one_of(&[7, 8, 31, 32, 63, 64, 255]),
+        _ => random.within(0, 6) as u32,
+    }
+}
+
+fn list(random: &mut Random) -> Job {
+    let size = Size { len: 0, width: 64, height: 64 };
+    let Cells::Line(ends) = line(random, size) else { unreachable!() };
+    let [x0, y0, x1, y1] = ends;
+    let cells = 1 + x0.abs_diff(x1).max(y0.abs_diff(y1)).min(36_000) as usize;
+    let places = [(); 2].map(|()| match random.number() % 12 {
+        0 => cells - 1,
+        1 => random.within(0, cells as i64) as usize,
+        2..6 => cells,
+        _ => cells + random.within(0, 40) as usize,
+    });
+    Job::List(places, ends)
+}
+
+const STRANGE: [f64; 9] = [f64::NAN, f64::INFINITY, f64::NEG_INFINITY, -0.0, 0.0, f64::MAX, f64::MIN, 5e-324, -1e-310];
+
+fn in_metres(random: &mut Random, size: Size, ink: u8, kind: u64) -> Job {
+    let mut origin = || match random.number() % 32 {
+        0 => random.one_of(&STRANGE),
+        1..8 => random.one_of(&[0.0, -0.0, 1000.0, 1e9, -1e15, 1e-300]),
+        _ => random.within(-1 << 40, 1 << 40) as f64 / random.one_of(&[1.0, 1024.0, 1000.0, 1e6]),
+    };
+    let (east, north) = (origin(), origin());
+    let cell_size = match random.number() % 32 {
+        0 => random.one_of(&STRANGE),
+        1 => random.one_of(&[-1.0, -25.0, 1e300, 1e-300, 1e-320, 1e17, 1e-9]),
+        2..12 => random.one_of(&[25.0, 1.0, 0.1, 0.3, 1.0 / 3.0, 1e-3]),
+        _ => random.within(1, 1 << 40) as f64 / random.one_of(&[1e6, 1e9, 1e12]),
+    };
+    let survey = Survey { east, north, size: cell_size };
+    let figure = match kind {
+        6 => line(random, size),
+        7 => circle(random, size),
+        _ => ellipse(random, size),
+    };
+    let mut metres = |origin: f64, cell: i64| position(random, origin, cell_size, cell);
+    let figure = match figure {
+        Cells::Line([x0, y0, x1, y1]) => {
+            let ends = [(east, x0), (north, y0), (east, x1), (north, y1)];
+            Metres::Line(ends.map(|(origin, cell)| metres(origin, cell.into())))
+        }
+        Cells::Circle([x, y], r) => {
+            Metres::Circle([metres(east, x.into()), metres(north, y.into()), metres(0.0, r.into())])
+        }
+        Cells::Ellipse([x, y], a, b) => {
+            let [x, y] = [metres(east, x.into()), metres(north, y.into())];
+            Metres::Ellipse([x, y, metres(0.0, a.into()), metres(0.0, b.into())])
+        }
+        Cells::Curve(..) => unreachable!("no curve is in metres"),
+    };
+    Job::Metres(size, ink, survey, figure)
+}
+
+/// A position in a cell: at its lower edge, next to that, or anywhere in it.
+fn position(random: &mut Random, origin: f64, size: f64, cell: i64) -> f64 {
+    let cell = if random.once_in(100) { -cell } else { cell };
+    let edge = origin + cell as f64 * size;
+    match random.number() % 16 {
+        0 if random.once_in(4) => random.one_of(&STRANGE),
+        0 => origin,
+        1..4 => edge,
+        4 | 5 => beside(edge, 1),
+        6 | 7 => beside(edge, -1),
+        _ => edge + size * (random.number() % 1_000_000) as f64 * 1e-6,
+    }
+}
+
+/// The next float away from zero, or towards it.
+fn beside(edge: f64, step: i64) -> f64 {
+    if edge == 0.0 {
+        return 5e-324 * step as f64;
+    }
+    f64::from_bits(edge.to_bits().wrapping_add_signed(step))
+}
+
+fn file(random: &mut Random, size: Size) -> Vec<u8> {
+    let mut bytes = Vec::new();
+    let records = if random.once_in(2000) { random.within(100, 400) } else { random.within(0, 6) };
+    for _ in 0..records {
+        record(random, size, records > 6, &mut bytes);
+    }
+    if random.once_in(2) {
+        for _ in 0..random.within(1, 3) {
+            damage(random, &mut bytes);
+        }
+    }
+    bytes
+}
+
+fn record(random: &mut Random, size: Size, tame: bool, bytes: &mut Vec<u8>) {
+    let mut figure = match random.number() % 4 {
+        0 => line(random, size),
+        1 => circle(random, size),
+        2 => ellipse(random, size),
+        _ => curve(random, size),
+    };
+    // of long files, most records are to be drawn
+    if tame {
+        figure = Cells::Line([0, 0, random.within(-99, 99) as i32, random.within(-99, 99) as i32]);
+    }
+    let (kind, numbers, s): (u16, Vec<i64>, Option<u32>) = match figure {
+        Cells::Line(ends) => (1, ends.map(i64::from).to_vec(), None),
+        Cells::Circle([x, y], r) => (2, vec![x.into(), y.into(), r.into()], None),
+        Cells::Ellipse([x, y], a, b) => (3, vec![x.into(), y.into(), a.into(), b.into()], None),
+        Cells::Curve(points, s) => (4, points.map(i64::from).to_vec(), Some(s)),
+    };
+    let length = 3 + 2 * numbers.len() + usize::from(s.is_some());
+    bytes.extend((length as u16).to_le_bytes());
+    bytes.extend(kind.to_le_bytes());
+    bytes.push(random.number() as u8);
+    bytes.extend(numbers.iter().flat_map(|&number| (number as u16).to_le_bytes()));
+    bytes.extend(s.map(|s| s as u8));
+}
+
+fn damage(random: &mut Random, bytes: &mut Vec<u8>) {
+    let at = random.number() as usize % (bytes.len() + 1);
+    match random.number() % 8 {
+        0 => bytes.truncate(at),
+        1 => bytes.insert(at, random.number() as u8),
+        2 if at < bytes.len() => drop(bytes.remove(at)),
+        3 => bytes.push(random.number() as u8),
+        // small numbers, as lengths and kinds are
+        4 | 5 if at < bytes.len() => bytes[at] = random.within(0, 17) as u8,
+        6 if at < bytes.len() => bytes[at] ^= 1 << random.within(0, 7),
+        7 if random.once_in(4) => {
+            bytes.resize(random.within(0, 40) as usize, 0);
+            random.fill(bytes);
+        }
+        // a record without a payload
+        _ => bytes.extend([random.within(0, 3) as u8, 0, random.within(0, 5) as u8, 0]),
+    }
+}
