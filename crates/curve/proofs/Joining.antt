@@ -1,12 +1,12 @@
--- The loops over the points of a curve: what holds after i of them, and that a turn keeps it.
+-- The loop over the points of a curve: what holds after i of them, and that a turn keeps it.
 use Prim.Native.Nat.{ℕ, _+_, _^_, _≤_, _<_}
 use mathlib.Core.Path.{_≡_, refl, sym, ap, _∙_}
 use mathlib.Core.List.{List}
-use mathlib.Core.Bool.{Bool, true, false, _&&_, _||_}
+use mathlib.Core.Bool.{Bool, true, false, _||_}
 use native.Mathlib.Omega.{arith}
 use lib.ListN.{length}
 use Rattle.laws.specs.Below.{any, all}
-use Rattle.laws.proofs.Below.{any-more, all-more, all→}
+use Rattle.laws.proofs.Below.{any-more, all→}
 use Rattle.laws.proofs.Tests.{is-true, from-true}
 use Rattle.sheet.specs.Sheet.{cellOf, inLimits, paint}
 use Rattle.sheet.specs.Inner.{Sheet, unmovedCell}
@@ -21,15 +21,6 @@ use Rattle.curve.specs.declared.Controls.{Controls}
 -- whether the ith point is within the limits
 abbrev pub isIn : Controls → ℕ → ℕ → Bool
 isIn c s i = inLimits (unmovedCell (jointAt c s i))
-
-pub none-tested : (c : Controls) (s : ℕ) → true ≡ all 0 (isIn c s)
-unfolding all
-none-tested c s = refl
-
-pub one-tested : (c : Controls) (s i : ℕ) (ok in-limits : Bool) (p : Spot) → ok ≡ all i (isIn c s) → in-limits ≡ inLimits (unmovedCell p) → p ≡ jointAt c s i
-    → (ok && in-limits) ≡ all (i + 1) (isIn c s)
-one-tested c s i ok in-limits p e f g =
-    (λ t. e t && (f ∙ ap (λ (q : Spot). inLimits (unmovedCell q)) g) t) ∙ sym (all-more i (isIn c s))
 
 pub point-in : (c : Controls) (s n i : ℕ) → all n (isIn c s) ≡ true → i < n → inLimits (unmovedCell (jointAt c s i)) ≡ true
 point-in c s n i e l = is-true (isIn c s i) (all→ n (isIn c s) (from-true (all n (isIn c s)) e) i l)

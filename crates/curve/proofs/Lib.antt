@@ -1,8 +1,9 @@
 pub mod Answers
+pub mod Between
 pub mod Blend
-pub mod Examples
 pub mod Fits
 pub mod Formula
 pub mod Joining
 pub mod Points
+pub mod Reversed
 pub mod Round

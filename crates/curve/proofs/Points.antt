@@ -17,7 +17,7 @@ use Rattle.curve.proofs.Blend.{blendℕ, blend-moved, blend-three, blen
 use Rattle.curve.proofs.Round.{rounded-is, rounded-whole}
 
 -- a power of a positive number is positive
-pow-above : (n d : ℕ) → 0 < n → 0 < n ^ d
+pub pow-above : (n d : ℕ) → 0 < n → 0 < n ^ d
 pow-above n zero l = omega (arith, pow-zero n)
 pow-above n (suc d) l = omega (arith, pow-succ' n d, mul-pos n (n ^ d) l (pow-above n d l))
   where

@@ -68,19 +68,24 @@ fn is_within(spot: Spot) -> bool
     ((49152 <= x) & (x <= 81919)) & ((49152 <= y) & (y <= 81919))
 }
 
-// Whether every joined point is within the limits.
+// Whether every joined point is within the limits: none lies outside the least and the greatest control value, so the control points are enough.
 fn all_within(controls: Controls, s: u32) -> bool
     requires { ⌜ Bends controls × (s ≤ 6) ⌝ }
     ensures { λ r. ⌜ r ≡ all (2 ^ s + 1) (λ (i : ℕ). inLimits (unmovedCell (jointAt controls s i))) ⌝ }
 {
-    let n = pieces(s);
-    let mut ok = true;
-    let mut i: u32 = 0;
-    while i <= n {
-        ok = ok & is_within(joint_at(controls, s, i));
-        i += 1;
-    }
-    ok
+    let a = Spot {
+        x: controls.x0,
+        y: controls.y0,
+    };
+    let b = Spot {
+        x: controls.x1,
+        y: controls.y1,
+    };
+    let c = Spot {
+        x: controls.x2,
+        y: controls.y2,
+    };
+    is_within(a) & (is_within(b) & is_within(c))
 }
 
 // Draws the line between two points within the limits.

@@ -1,6 +1,9 @@
+pub mod Boundary
 mod Contents
 pub mod Examples
 mod Figures
 pub mod InMetres
+pub mod Nothing
 mod Records
+pub mod Starred
 pub mod Unique

@@ -1,4 +1,6 @@
+pub mod Boundary
 pub mod Figure
 pub mod File
 pub mod Metres
 pub mod Shown
+pub mod Starred

@@ -9,7 +9,6 @@ pub mod Chains
 pub mod Distances
 pub mod Distinct
 pub mod EitherEnd
-pub mod Examples
 pub mod Filled
 pub mod Fixed
 pub mod Hops
@@ -25,4 +24,5 @@ pub mod Replies
 pub mod Rise
 pub mod Third
 pub mod Walking
+pub mod Whole
 pub mod Within

@@ -1,10 +1,10 @@
 -- The steps across, floor((2nS + L) / (2L)): the floor's two bounds, and that they are no more than n nor than S.
 use Prim.Native.Nat.{ℕ, zero, suc, _+_, _-_, _*_, _/_, _≤_, _<_}
-use mathlib.Core.Path.{_≡_, refl, ap, _∙_}
+use mathlib.Core.Path.{_≡_, refl, sym, ap, _∙_}
 use mathlib.Core.Bool.{Bool, true, false, cond}
 use native.Mathlib.Nat.{mul-le-mul-left, mul-le-mul-right, div-lt-iff-lt-mul, div-eq-of-lt, div-zero}
 use native.Mathlib.Omega.{arith}
-use Rattle.laws.proofs.Floor.{div-low, div-high}
+use Rattle.laws.proofs.Floor.{div-is, div-low, div-high}
 use Rattle.line.specs.Rule.{rise}
 
 -- the floor's two bounds
@@ -45,6 +45,12 @@ rise-short zero S n l = omega (arith, rise-none S n)
 rise-short (suc L) S n l =
     let h : (2 * (n * S) + suc L) / (2 * suc L) < S + 1 = div-lt-iff-lt-mul {k = 2 * suc L} {x = 2 * (n * S) + suc L} {y = S + 1} (omega arith) .1 (omega (arith, mul-le-mul-right S l)) in
     omega arith
+
+-- and at the end as many
+pub rise-end : (L S : ℕ) → S ≤ L → rise L S L ≡ S
+unfolding rise
+rise-end zero S l = omega (arith, rise-none S 0)
+rise-end (suc L) S l = sym (div-is (2 * (suc L * S) + suc L) (2 * suc L) S (omega arith) (omega arith))
 
 -- n counted from either end is a number of the line
 pub from-either : (t : Bool) (n L : ℕ) → n ≤ L → cond t n (L - n) ≤ L

@@ -1,7 +1,7 @@
 // Drawing a line: the range of its cells that are on the sheet is worked out once, and walked with no test for each cell.
 ghost use mathlib.Core.Path.{_≡_};
 ghost use mathlib.Core.Logic.{_⊎_};
-ghost use mathlib.Core.Bool.{cond};
+ghost use mathlib.Core.Bool.{true, cond};
 ghost use Prim.Native.Nat.{_+_, _-_, _*_, _/_, _%_, _≤_, _<_};
 ghost use lib.ListN.{length};
 ghost use Rattle.sheet.specs.Sheet.{paint, cellsOn};
@@ -21,6 +21,7 @@ use sheet::Cell;
 use sheet::Counted;
 use sheet::Refusal;
 use sheet::Shape;
+use sheet::Spot;
 
 // The larger, the smaller; a less b, or 0 where that is below 0.
 fn larger(a: u32, b: u32) -> u32
@@ -99,7 +100,7 @@ fn past_n(shape: Shape, course: Course) -> u32
     )
 }
 
-// What n such steps come to: its whole part is the steps along the shorter extent at the nth cell.
+// What n steps of f come to in parts of 2^32, with a half and a little more: the whole part is the nth cell's steps along the shorter extent.
 fn tally_at(l: u32, f: u32, n: u32) -> u64
     requires { ⌜ (n ≤ l) × (l ≤ 32767) ⌝ }
     ensures { λ r. ⌜ (r ≡ n * f + (2147483648 + 2 * l)) × (r < 281474976710656) ⌝ }
@@ -118,6 +119,28 @@ fn part(t: u64) -> u32
     ensures { λ r. ⌜ r ≡ t % 4294967296 ⌝ }
 {
     (t % 4294967296) as u32
+}
+
+// Whether a spot is on the sheet.
+fn is_on(shape: Shape, spot: Spot) -> bool
+    requires { ⌜ (shape .width ≤ 4096) × (shape .height ≤ 4096) ⌝ }
+    ensures { λ r. ⌜ (r ≡ true → On shape spot) ⌝ }
+{
+    let x = spot.x;
+    let y = spot.y;
+    let right = 65536 + shape.width;
+    let bottom = 65536 + shape.height;
+    ((65536 <= x) & (x < right)) & ((65536 <= y) & (y < bottom))
+}
+
+// Whether both ends are on the sheet, and with them every cell between.
+fn is_whole(shape: Shape, course: Course) -> bool
+    requires { ⌜ (shape .width ≤ 4096) × (shape .height ≤ 4096) × Runs course ⌝ }
+    ensures { λ r. ⌜ (r ≡ true → Spans shape course 0 (course .long + 1)) ⌝ }
+{
+    let first = spot_of(course, 0, 0);
+    let last = spot_of(course, course.long, course.short);
+    is_on(shape, first) & is_on(shape, last)
 }
 
 // The byte of the nth cell, which is on the sheet.
@@ -188,11 +211,38 @@ fn walk(sheet: &mut [u8], shape: Shape, ink: u8, course: Course, first: u32, pas
     }
 }
 
+// Inks a line of one cell or two: they are its ends.
+fn ends(sheet: &mut [u8], shape: Shape, ink: u8, course: Course)
+    requires { ⌜ Runs course × (course .long ≤ 1) ⌝ }
+    ensures { λ r. ⌜ now (sheet .exit) ≡ paint shape ink (firstCells course (course .long + 1)) (now (sheet .entry)) ⌝ }
+{
+    let first = spot_of(course, 0, 0);
+    let last = spot_of(course, course.long, course.short);
+    sheet::ink_at(sheet, shape, ink, first);
+    sheet::ink_at(sheet, shape, ink, last);
+}
+
+// Inks a line that is wholly on the sheet; a short one needs no slope.
+fn whole_line(sheet: &mut [u8], shape: Shape, ink: u8, course: Course)
+    requires { ⌜ Sheet shape (now sheet) × Runs course × Spans shape course 0 (course .long + 1) ⌝ }
+    ensures { λ r. ⌜ now (sheet .exit) ≡ paint shape ink (firstCells course (course .long + 1)) (now (sheet .entry)) ⌝ }
+{
+    if course.long < 2 {
+        ends(sheet, shape, ink, course);
+        return;
+    }
+    walk(sheet, shape, ink, course, 0, course.long + 1);
+}
+
 // Inks the cells of a line that are on the sheet; how many they are.
 fn run(sheet: &mut [u8], shape: Shape, ink: u8, course: Course) -> u32
     requires { ⌜ Sheet shape (now sheet) × Runs course ⌝ }
     ensures { λ r. ⌜ (r ≡ cellsOn shape (firstCells course (course .long + 1))) × (now (sheet .exit) ≡ paint shape ink (firstCells course (course .long + 1)) (now (sheet .entry))) ⌝ }
 {
+    if is_whole(shape, course) {
+        whole_line(sheet, shape, ink, course);
+        return course.long + 1;
+    }
     let first = first_n(shape, course);
     let past = past_n(shape, course);
     if past <= first {

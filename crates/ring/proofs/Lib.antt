@@ -7,4 +7,3 @@ mod Around
 mod Four
 mod Turns
 mod Answers
-pub mod Examples

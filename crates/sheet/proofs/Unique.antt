@@ -81,3 +81,10 @@ drawn-one r q e = sym (drawn-of r) ∙ ap drawnOf e ∙ drawn-of q
 
 pub counted-one : (r q : Counted) → toldCounted r ≡ toldCounted q → r ≡ q
 counted-one r q e = sym (counted-of r) ∙ ap countedOf e ∙ counted-of q
+
+-- Two values that meet one equation are equal; so are two replies of one answer, where telling is one-to-one. These serve every public function.
+pub one-value : {A : Type 0} (v w a : A) → v ≡ a → w ≡ a → v ≡ w
+one-value v w a e f = e ∙ sym f
+
+pub one-reply : {A B : Type 0} (told : A → B) → ((r q : A) → told r ≡ told q → r ≡ q) → (a : B) (r q : A) → told r ≡ a → told q ≡ a → r ≡ q
+one-reply told one a r q e f = one r q (one-value (told r) (told q) a e f)

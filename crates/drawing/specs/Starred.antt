@@ -1,0 +1,100 @@
+-- Document 01, "Checked examples": the starred ones, of all figures, in one table.
+use Prim.Native.Nat.{ℕ, zero, suc, _+_, _^_, _≤_}
+use mathlib.Core.Path.{_≡_}
+use mathlib.Core.List.{List, [], _∷_, _++_}
+use mathlib.Core.Bool.{Bool, false, cond, _&&_, _||_}
+use lib.ListN.{length}
+use lib.Dec.{T, eqb}
+use lib.IntN.{ℤ, pos, negsuc, negℤ, natAbs}
+use Rattle.sheet.specs.Sheet.{cellOf}
+use Rattle.sheet.specs.declared.Cell.{Cell}
+use Rattle.line.specs.Listing.{cellsOf, listing}
+use Rattle.curve.specs.Rule.{pointAt}
+use Rattle.record.specs.declared.types.Figure.{Figure}
+use Rattle.record.specs.declared.types.Figure.the-variants.{Circle, Ellipse}
+use Rattle.drawing.specs.Figure.{onFigure}
+
+-- a line by its ends and the cells listed; a ring by the cells (x, y) that it is mirrored from, and how many it has; a curve by its control points, s and its points
+pub data Example : Type 0 where
+  line : (a b : Cell) → List Cell → Example
+  ring : Figure → List Cell → ℕ → Example
+  curve : List Cell → ℕ → List Cell → Example
+
+-- the numbers −n to n, and the cells of their rows
+unfoldable pub span : ℕ → List ℤ
+span zero = pos 0 ∷ []
+span (suc n) = negsuc n ∷ (span n ++ (pos (suc n) ∷ []))
+
+unfoldable pub row : ℤ → List ℤ → List Cell
+row y [] = []
+row y (x ∷ xs) = record { x = x; y = y } ∷ row y xs
+
+unfoldable pub rows : List ℤ → List ℤ → List Cell
+rows xs [] = []
+rows xs (y ∷ ys) = row y xs ++ rows xs ys
+
+-- the cells with coordinates −4 to 4 that a figure holds
+unfoldable pub among : List Cell → (Cell → Bool) → List Cell
+among [] figure = []
+among (c ∷ cs) figure = cond (figure c) (c ∷ among cs figure) (among cs figure)
+
+abbrev pub near : (Cell → Bool) → List Cell
+near = among (rows (span 4) (span 4))
+
+-- the cells (±x, ±y) from a list of (x, y)
+unfoldable pub mirrored : List Cell → Cell → Bool
+mirrored [] d = false
+mirrored (c ∷ cs) d = (eqb (natAbs (d .x)) (natAbs (c .x)) && eqb (natAbs (d .y)) (natAbs (c .y))) || mirrored cs d
+
+-- a line lists just these; a ring has no cell further than 4 away, just those mirrored from these, and so many; a curve has just these points
+abbrev pub Holds : Example → Type 0
+Holds (line a b cells) = listing a b ≡ cells
+Holds (ring f from n) =
+    ((d : Cell) → T (onFigure f d) → (natAbs (d .x) ≤ 4) × (natAbs (d .y) ≤ 4))
+    × (near (onFigure f) ≡ near (mirrored from))
+    × (length (near (onFigure f)) ≡ n)
+Holds (curve ps s points) = cellsOf (pointAt ps (2 ^ s)) (2 ^ s + 1) ≡ points
+
+pub data AllHold : (es : List Example) → Type 0 where
+  none : AllHold []
+  also : {e : Example} {es : List Example} → Holds e → AllHold es → AllHold (e ∷ es)
+
+-- −1; the cell (x, 0)
+abbrev pub less : ℤ
+less = negℤ (pos 1)
+
+abbrev pub level : ℤ → Cell
+level x = record { x = x; y = pos 0 }
+
+-- (2, −1)
+abbrev pub above : Cell
+above = record { x = pos 2; y = less }
+
+-- the cells that the circles of radius 0, 2 and 3, with x and y exchanged too, and the ellipse are mirrored from
+abbrev pub from0 : List Cell
+from0 = cellOf 0 0 ∷ []
+
+abbrev pub from2 : List Cell
+from2 = cellOf 0 2 ∷ cellOf 1 2 ∷ cellOf 2 0 ∷ cellOf 2 1 ∷ []
+
+abbrev pub from3 : List Cell
+from3 = cellOf 0 3 ∷ cellOf 1 3 ∷ cellOf 2 2 ∷ cellOf 3 0 ∷ cellOf 3 1 ∷ []
+
+abbrev pub from32 : List Cell
+from32 = cellOf 0 2 ∷ cellOf 1 2 ∷ cellOf 2 1 ∷ cellOf 3 1 ∷ cellOf 3 0 ∷ []
+
+unfoldable pub table : List Example
+table =
+    line (cellOf 0 0) (cellOf 2 1) (cellOf 0 0 ∷ cellOf 1 1 ∷ cellOf 2 1 ∷ [])
+    ∷ line (cellOf 2 1) (cellOf 0 0) (cellOf 2 1 ∷ cellOf 1 1 ∷ cellOf 0 0 ∷ [])
+    ∷ line (cellOf 0 0) (cellOf 5 2) (cellOf 0 0 ∷ cellOf 1 0 ∷ cellOf 2 1 ∷ cellOf 3 1 ∷ cellOf 4 2 ∷ cellOf 5 2 ∷ [])
+    ∷ line (cellOf 0 0) above (cellOf 0 0 ∷ cellOf 1 0 ∷ above ∷ [])
+    ∷ line (cellOf 0 0) (cellOf 1 2) (cellOf 0 0 ∷ cellOf 1 1 ∷ cellOf 1 2 ∷ [])
+    ∷ line (cellOf 4 4) (cellOf 4 4) (cellOf 4 4 ∷ [])
+    ∷ ring (Circle (cellOf 0 0) 0) from0 1
+    ∷ ring (Circle (cellOf 0 0) 2) from2 12
+    ∷ ring (Circle (cellOf 0 0) 3) from3 16
+    ∷ ring (Ellipse (cellOf 0 0) 3 2) from32 16
+    ∷ curve (cellOf 0 0 ∷ cellOf 2 4 ∷ cellOf 4 0 ∷ []) 1 (cellOf 0 0 ∷ cellOf 2 2 ∷ cellOf 4 0 ∷ [])
+    ∷ curve (level less ∷ level less ∷ level (pos 0) ∷ []) 1 (level less ∷ level less ∷ level (pos 0) ∷ [])
+    ∷ []

@@ -1,0 +1,78 @@
+-- A line whose two ends are on the sheet is on it whole, and one of one cell or two is its ends.
+use Prim.Native.Nat.{ℕ, zero, suc, _+_, _≤_, _<_}
+use mathlib.Core.Path.{_≡_, refl, sym, _∙_}
+use mathlib.Core.Bool.{Bool, true, false, cond, _||_}
+use mathlib.Core.List.{List}
+use native.Mathlib.Omega.{arith}
+use Rattle.laws.specs.Below.{any}
+use Rattle.sheet.specs.Sheet.{cellOf, isCell, paint}
+use Rattle.sheet.specs.Inner.{unmovedCell}
+use Rattle.sheet.specs.declared.Cell.{Cell}
+use Rattle.sheet.specs.declared.Shape.{Shape}
+use Rattle.sheet.specs.declared.Spot.{Spot}
+use Rattle.sheet.proofs.Paint.{paint-as, paint-then}
+use Rattle.line.specs.Rule.{rise}
+use Rattle.line.specs.Course.{stepped, spotAt, Runs, firstCells}
+use Rattle.line.specs.Span.{stepsX, stepsY, On, Spans}
+use Rattle.line.specs.declared.Course.{Course}
+use Rattle.line.proofs.Rise.{rise-start, rise-short, rise-end}
+
+-- the steps to the nth cell are between those to the first and those to the last, along either axis
+across : (steep : Bool) (L S n : ℕ) → S ≤ L → n ≤ L
+    → (cond steep (rise L S 0) 0 ≤ cond steep (rise L S n) n) × (cond steep (rise L S n) n ≤ cond steep (rise L S L) L)
+across true L S n a l = (omega (arith, rise-start L S), omega (arith, rise-short L S n l, rise-end L S a))
+across false L S n a l = (omega arith, l)
+
+along : (steep : Bool) (L S n : ℕ) → S ≤ L → n ≤ L
+    → (cond steep 0 (rise L S 0) ≤ cond steep n (rise L S n)) × (cond steep n (rise L S n) ≤ cond steep L (rise L S L))
+along true L S n a l = across false L S n a l
+along false L S n a l = across true L S n a l
+
+-- and so are the places that they lead to
+between-low : (up : Bool) (m least i k j : ℕ) → (i ≤ k) × (k ≤ j) → least ≤ stepped up m i → least ≤ stepped up m j → least ≤ stepped up m k
+between-low true m least i k j b p q = omega arith
+between-low false m least i k j b p q = omega arith
+
+between-high : (up : Bool) (m most i k j : ℕ) → (i ≤ k) × (k ≤ j) → stepped up m i < most → stepped up m j < most → stepped up m k < most
+between-high true m most i k j b p q = omega arith
+between-high false m most i k j b p q = omega arith
+
+pub whole : (k : Shape) (c : Course) → Runs c → On k (spotAt c 0) → On k (spotAt c (c .long)) → Spans k c 0 (c .long + 1)
+unfolding spotAt
+whole k c r a b =
+    record {
+      low = omega arith;
+      on = λ n p q.
+          let x = across (c .steep) (c .long) (c .short) n (r .shorter) (omega arith) in
+          let y = along (c .steep) (c .long) (c .short) n (r .shorter) (omega arith) in
+          record {
+            left = between-low (c .right) (c .x) 65536 (stepsX c 0) (stepsX c n) (stepsX c (c .long)) x (a .left) (b .left);
+            top = between-low true (c .y) 65536 (stepsY c 0) (stepsY c n) (stepsY c (c .long)) y (a .top) (b .top);
+            right = between-high (c .right) (c .x) (65536 + k .width) (stepsX c 0) (stepsX c n) (stepsX c (c .long)) x (a .right) (b .right);
+            bottom = between-high true (c .y) (65536 + k .height) (stepsY c 0) (stepsY c n) (stepsY c (c .long)) y (a .bottom) (b .bottom);
+          };
+      before = λ n u p o. absurd (omega arith);
+      after = λ n u p o. absurd (omega arith);
+    }
+
+-- the cells of a line of one or two
+end-cells : (c : Course) → c .long ≤ 1 → (d : Cell)
+    → firstCells c (c .long + 1) d ≡ (isCell (unmovedCell (spotAt c 0)) d || isCell (unmovedCell (spotAt c (c .long))) d)
+unfolding firstCells any
+end-cells c l d = by (λ (i : ℕ). isCell (unmovedCell (spotAt c i)) d) (c .long) l
+  where
+    twice : (t : Bool) → t ≡ (t || t)
+    twice true = refl
+    twice false = refl
+
+    by : (hit : ℕ → Bool) (n : ℕ) → n ≤ 1 → any (n + 1) hit ≡ (hit 0 || hit n)
+    by hit zero m = twice (hit 0)
+    by hit (suc zero) m = refl
+    by hit (suc (suc n)) m = absurd (omega arith)
+
+pub ends-inked : (k : Shape) (ink : ℕ) (c : Course) → c .long ≤ 1 → (p q : Spot) → p ≡ spotAt c 0 → q ≡ spotAt c (c .long)
+    → (s : List ℕ) → paint k ink (isCell (unmovedCell q)) (paint k ink (isCell (unmovedCell p)) s) ≡ paint k ink (firstCells c (c .long + 1)) s
+ends-inked k ink c l p q e f s =
+    (λ i. paint k ink (isCell (unmovedCell (f i))) (paint k ink (isCell (unmovedCell (e i))) s))
+    ∙ paint-then k ink _ _ s
+    ∙ sym (paint-as k ink _ _ s (λ x y a b. end-cells c l (cellOf x y)))
