@@ -1,6 +1,6 @@
 -- A sweep over the columns of a rule, as it is or turned.
 use Prim.Native.Nat.{ℕ, _+_, _<_}
-use mathlib.Core.Path.{_≡_, sym, subst}
+use mathlib.Core.Path.{_≡_, refl, sym, subst, _∙_}
 use mathlib.Core.Logic.{inl, inr}
 use mathlib.Core.List.{List}
 use mathlib.Core.Bool.{Bool, true, false, _&&_, _||_, and-comm}
@@ -48,51 +48,65 @@ one-more q x y only there u v = same (before x q u v || isOffset x y u v) (befor
               or-r (before x q u v) (isOffset x y u v) (→offset x y u v e (only v (subst (λ (k : ℕ). T (q k v)) e z)))
         ]
 
--- a turned rule, case by case
-turned-as : (t : Bool) (p q : ℕ → ℕ → Bool) → ((u v : ℕ) → p u v ≡ q u v) → (u v : ℕ) → turned t p u v ≡ turned t q u v
-unfolding turned
-turned-as true p q h u v = h v u
-turned-as false p q h u v = h u v
+-- one of four and another of four, in either order
+in-turn : (a b c d : Bool) → ((a || b) || (c || d)) ≡ ((a || c) || (b || d))
+in-turn true b c d = refl
+in-turn false true true d = refl
+in-turn false true false d = refl
+in-turn false false c d = refl
 
-turned-then : (t : Bool) (p q r : ℕ → ℕ → Bool) → ((u v : ℕ) → (p u v || q u v) ≡ r u v) → (u v : ℕ) → (turned t p u v || turned t q u v) ≡ turned t r u v
-unfolding turned
-turned-then true p q r h u v = h v u
-turned-then false p q r h u v = h u v
+as-is : (a c : Bool) → ((a || false) || (c || false)) ≡ ((a || c) || false)
+as-is true c = refl
+as-is false c = refl
 
--- an offset with its coordinates exchanged, and as it is
-pub offset-turned : (t : Bool) → t ≡ true → (x y u v : ℕ) → isOffset y x u v ≡ turned t (isOffset x y) u v
-unfolding turned isOffset
-offset-turned t e x y u v = rw e (and-comm (eqb u y) (eqb v x))
+each : (s t a b c d : Bool) → (((s && a) || (t && b)) || ((s && c) || (t && d))) ≡ ((s && (a || c)) || (t && (b || d)))
+each true true a b c d = in-turn a b c d
+each true false a b c d = as-is a c
+each false true a b c d = refl
+each false false a b c d = refl
 
-pub offset-straight : (t : Bool) → t ≡ false → (x y u v : ℕ) → isOffset x y u v ≡ turned t (isOffset x y) u v
-unfolding turned
-offset-straight t e x y u v = rw e
+nothing : (s t : Bool) → ((s && false) || (t && false)) ≡ false
+nothing true true = refl
+nothing true false = refl
+nothing false true = refl
+nothing false false = refl
 
-module _ (k : Shape) (ink : ℕ) (c : Cell) (t : Bool) (q : ℕ → ℕ → Bool) where
+-- a turned rule: one that agrees, one after another, and one offset
+module _ (s t : Bool) where
+  turned-as : (p q : ℕ → ℕ → Bool) → ((u v : ℕ) → p u v ≡ q u v) → (u v : ℕ) → turned s t p u v ≡ turned s t q u v
+  unfolding turned
+  turned-as p q h u v = λ i. (s && h u v i) || (t && h v u i)
+
+  turned-then : (p q r : ℕ → ℕ → Bool) → ((u v : ℕ) → (p u v || q u v) ≡ r u v) → (u v : ℕ)
+      → (turned s t p u v || turned s t q u v) ≡ turned s t r u v
+  unfolding turned
+  turned-then p q r h u v = each s t (p u v) (p v u) (q u v) (q v u) ∙ (λ i. (s && h u v i) || (t && h v u i))
+
+  pub offset-turned : (x y u v : ℕ) → ((s && isOffset x y u v) || (t && isOffset y x u v)) ≡ turned s t (isOffset x y) u v
+  unfolding turned isOffset
+  offset-turned x y u v = λ i. (s && isOffset x y u v) || (t && and-comm (eqb u y) (eqb v x) i)
+
+module _ (k : Shape) (ink : ℕ) (c : Cell) (s t : Bool) (q : ℕ → ℕ → Bool) where
   -- before the first column nothing is painted
-  pub sweep-begins : (s : List ℕ) → s ≡ paint k ink (around c (turned t (before 0 q))) s
+  pub sweep-begins : (lent : List ℕ) → lent ≡ paint k ink (around c (turned s t (before 0 q))) lent
   unfolding turned before
-  sweep-begins s = sym (around-none k ink c (turned t (before 0 q)) s (λ u v. by t u v))
+  sweep-begins lent = sym (around-none k ink c (turned s t (before 0 q)) lent (λ u v. (λ i. (s && none u v i) || (t && none v u i)) ∙ nothing s t))
     where
       none : (u v : ℕ) → (ltb u 0 && q u v) ≡ false
       none u v = is-false (ltb u 0 && q u v) (λ p. omega (arith, ltb→lt u 0 (and-l (ltb u 0) (q u v) p)))
 
-      by : (t : Bool) (u v : ℕ) → turned t (before 0 q) u v ≡ false
-      by true u v = none v u
-      by false u v = none u v
-
   -- a column is painted after those before it
-  pub sweep-turn : (x y : ℕ) → ((v : ℕ) → T (q x v) → v ≡ y) → T (q x y) → (s s₁ s₂ : List ℕ)
-      → s₁ ≡ paint k ink (around c (turned t (before x q))) s
-      → s₂ ≡ paint k ink (around c (turned t (isOffset x y))) s₁
-      → s₂ ≡ paint k ink (around c (turned t (before (x + 1) q))) s
-  sweep-turn x y only there s s₁ s₂ e f =
-      around-then k ink c _ _ _ s s₁ s₂ (turned-then t _ _ _ (one-more q x y only there)) e f
+  pub sweep-turn : (x y : ℕ) → ((v : ℕ) → T (q x v) → v ≡ y) → T (q x y) → (lent s₁ s₂ : List ℕ)
+      → s₁ ≡ paint k ink (around c (turned s t (before x q))) lent
+      → s₂ ≡ paint k ink (around c (turned s t (isOffset x y))) s₁
+      → s₂ ≡ paint k ink (around c (turned s t (before (x + 1) q))) lent
+  sweep-turn x y only there lent s₁ s₂ e f =
+      around-then k ink c _ _ _ lent s₁ s₂ (turned-then s t _ _ _ (one-more q x y only there)) e f
 
   -- where no column from x on has a cell, all are painted
-  pub sweep-ends : (x : ℕ) → ((u v : ℕ) → T (q u v) → u < x) → (s s₁ : List ℕ)
-      → s₁ ≡ paint k ink (around c (turned t (before x q))) s → s₁ ≡ paint k ink (around c (turned t q)) s
-  sweep-ends x f s s₁ e = around-as k ink c _ _ s s₁ (turned-as t (before x q) q all) e
+  pub sweep-ends : (x : ℕ) → ((u v : ℕ) → T (q u v) → u < x) → (lent s₁ : List ℕ)
+      → s₁ ≡ paint k ink (around c (turned s t (before x q))) lent → s₁ ≡ paint k ink (around c (turned s t q)) lent
+  sweep-ends x f lent s₁ e = around-as k ink c _ _ lent s₁ (turned-as s t (before x q) q all) e
     where
       all : (u v : ℕ) → before x q u v ≡ q u v
       all u v = unfold before in same (ltb u x && q u v) (q u v) (and-r (ltb u x) (q u v)) (λ m. and-i (ltb u x) (q u v) (lt→ltb u x (f u v m)) m)

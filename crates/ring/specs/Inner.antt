@@ -1,6 +1,6 @@
 -- What the inner functions promise each other, over the natural numbers that the code works in.
 use Prim.Native.Nat.{ℕ, _+_, _-_, _*_, _≤_, _<_}
-use mathlib.Core.Bool.{Bool, cond, _&&_}
+use mathlib.Core.Bool.{Bool, _&&_, _||_}
 use lib.Dec.{leb, eqb}
 use lib.IntN.{pos}
 use Rattle.sheet.specs.Inner.{Moved}
@@ -29,9 +29,9 @@ pub record Centred (p : Spot) : Type 0 where
 unfoldable pub isOffset : ℕ → ℕ → ℕ → ℕ → Bool
 isOffset x y u v = eqb u x && eqb v y
 
--- a rule with the coordinates exchanged, where t holds
-unfoldable pub turned : Bool → (ℕ → ℕ → Bool) → ℕ → ℕ → Bool
-turned t rule x y = cond t (rule y x) (rule x y)
+-- a rule as it is, where s holds, and with the coordinates exchanged, where t holds
+unfoldable pub turned : Bool → Bool → (ℕ → ℕ → Bool) → ℕ → ℕ → Bool
+turned s t rule x y = (s && rule x y) || (t && rule y x)
 
 -- the column rule in the columns 0..a
 unfoldable pub columns : ℕ → ℕ → ℕ → ℕ → Bool

@@ -1,5 +1,6 @@
 // Circles and ellipses.
 ghost use mathlib.Core.Path.{_≡_};
+ghost use mathlib.Core.Bool.{_&&_};
 ghost use Prim.Native.Nat.{_≤_, _<_};
 ghost use lib.ListN.{length};
 ghost use Rattle.sheet.specs.Sheet.{paint, radius, semiAxis};
@@ -47,24 +48,49 @@ fn ink_four(sheet: &mut [u8], shape: Shape, ink: u8, centre: Spot, x: u32, y: u3
     sheet::ink_at(sheet, shape, ink, Spot { x: right, y: below });
 }
 
-// Inks the four cells (±x, ±y) from the centre, or (±y, ±x) where turn holds.
-fn ink_turned(sheet: &mut [u8], shape: Shape, ink: u8, centre: Spot, turn: bool, x: u64, y: u64)
+// Inks them where they are wanted.
+fn ink_wanted(sheet: &mut [u8], shape: Shape, ink: u8, centre: Spot, wanted: bool, x: u32, y: u32)
     requires { ⌜ Centred centre × (x ≤ 16383) × (y ≤ 16383) ⌝ }
-    ensures { λ r. ⌜ now (sheet .exit) ≡ paint shape ink (around (unmovedCell centre) (turned turn (isOffset x y))) (now (sheet .entry)) ⌝ }
+    ensures { λ r. ⌜ now (sheet .exit) ≡ paint shape ink (around (unmovedCell centre) (λ u v. wanted && isOffset x y u v)) (now (sheet .entry)) ⌝ }
 {
-    let along = x as u32;
-    let across = y as u32;
-    if turn {
-        ink_four(sheet, shape, ink, centre, across, along);
-    } else {
-        ink_four(sheet, shape, ink, centre, along, across);
+    if wanted {
+        ink_four(sheet, shape, ink, centre, x, y);
     }
 }
 
-// Inks the columns of an ellipse; the rows of the one with its axes exchanged, where turn holds. It ends where the slope test turns.
-fn sweep(sheet: &mut [u8], shape: Shape, ink: u8, centre: Spot, turn: bool, a: u64, b: u64)
+// Inks the cells (±x, ±y) from the centre where straight holds, and (±y, ±x) where turn holds.
+fn ink_turned(
+    sheet: &mut [u8],
+    shape: Shape,
+    ink: u8,
+    centre: Spot,
+    straight: bool,
+    turn: bool,
+    x: u64,
+    y: u64,
+)
+    requires { ⌜ Centred centre × (x ≤ 16383) × (y ≤ 16383) ⌝ }
+    ensures { λ r. ⌜ now (sheet .exit) ≡ paint shape ink (around (unmovedCell centre) (turned straight turn (isOffset x y))) (now (sheet .entry)) ⌝ }
+{
+    let along = x as u32;
+    let across = y as u32;
+    ink_wanted(sheet, shape, ink, centre, straight, along, across);
+    ink_wanted(sheet, shape, ink, centre, turn, across, along);
+}
+
+// Inks the columns of an ellipse where straight holds, and the rows of the one with its axes exchanged where turn holds. It ends where the slope test turns.
+fn sweep(
+    sheet: &mut [u8],
+    shape: Shape,
+    ink: u8,
+    centre: Spot,
+    straight: bool,
+    turn: bool,
+    a: u64,
+    b: u64,
+)
     requires { ⌜ Centred centre × (1 ≤ a) × (a ≤ 16383) × (b ≤ 16383) ⌝ }
-    ensures { λ r. ⌜ now (sheet .exit) ≡ paint shape ink (around (unmovedCell centre) (turned turn (columns a b))) (now (sheet .entry)) ⌝ }
+    ensures { λ r. ⌜ now (sheet .exit) ≡ paint shape ink (around (unmovedCell centre) (turned straight turn (columns a b))) (now (sheet .entry)) ⌝ }
 {
     let aa = a * a;
     let bb = b * b;
@@ -75,7 +101,7 @@ fn sweep(sheet: &mut [u8], shape: Shape, ink: u8, centre: Spot, turn: bool, a: u
         if aa * y < bb * x {
             return;
         }
-        ink_turned(sheet, shape, ink, centre, turn, x, y);
+        ink_turned(sheet, shape, ink, centre, straight, turn, x, y);
         x += 1;
     }
 }
@@ -85,11 +111,11 @@ fn ellipse_on(sheet: &mut [u8], shape: Shape, ink: u8, centre: Spot, a: u64, b: 
     requires { ⌜ Centred centre × (1 ≤ a) × (a ≤ 16383) × (1 ≤ b) × (b ≤ 16383) ⌝ }
     ensures { λ r. ⌜ now (sheet .exit) ≡ paint shape ink (around (unmovedCell centre) (ellipseRule a b)) (now (sheet .entry)) ⌝ }
 {
-    sweep(sheet, shape, ink, centre, false, a, b);
-    sweep(sheet, shape, ink, centre, true, b, a);
+    sweep(sheet, shape, ink, centre, true, false, a, b);
+    sweep(sheet, shape, ink, centre, false, true, b, a);
 }
 
-// Inks the circle about the centre: from radius 1 up it is the ellipse of equal axes.
+// Inks the circle about the centre: from radius 1 up it is the ellipse of equal axes, whose rows are its columns turned.
 fn circle_on(sheet: &mut [u8], shape: Shape, ink: u8, centre: Spot, r: u64)
     requires { ⌜ Centred centre × (r ≤ 16383) ⌝ }
     ensures { λ d. ⌜ now (sheet .exit) ≡ paint shape ink (around (unmovedCell centre) (circleRule r)) (now (sheet .entry)) ⌝ }
@@ -97,7 +123,7 @@ fn circle_on(sheet: &mut [u8], shape: Shape, ink: u8, centre: Spot, r: u64)
     if r == 0 {
         ink_four(sheet, shape, ink, centre, 0, 0);
     } else {
-        ellipse_on(sheet, shape, ink, centre, r, r);
+        sweep(sheet, shape, ink, centre, true, true, r, r);
     }
 }
 

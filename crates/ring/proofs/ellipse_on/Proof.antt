@@ -1,5 +1,6 @@
 -- `ring::ellipse_on` meets its contract: columns, then rows.
-use mathlib.Core.Bool.{true, false}
+use mathlib.Core.Path.{_≡_, refl, ap, _∙_}
+use mathlib.Core.Bool.{Bool, true, false, _||_}
 use native.Mathlib.Omega.{arith}
 use denote.Ref.{now}
 use Rattle.sheet.specs.Inner.{unmovedCell}
@@ -20,14 +21,20 @@ sweep-requires-2 c κs = search needs
 same-length : tie.Need-same-length
 same-length c = search needs
 
+or-false : (t : Bool) → (t || false) ≡ t
+or-false true = refl
+or-false false = refl
+
 returns : tie.Need-returns
 unfolding turned
 returns c =
     let start = c .before .before .before .before .before .before .before .before .before in
     let a = start .args in
-    around-then (a .shape) (a .ink) (unmovedCell (a .centre)) (turned false (columns (a .a) (a .b))) (turned true (columns (a .b) (a .a))) (ellipseRule (a .a) (a .b))
+    around-then (a .shape) (a .ink) (unmovedCell (a .centre)) (turned true false (columns (a .a) (a .b))) (turned false true (columns (a .b) (a .a))) (ellipseRule (a .a) (a .b))
     (now (a .sheet)) _ _
-    (columns-and-rows (a .a) (a .b) (omega (arith, start .pre)) (omega (arith, start .pre)))
+    (λ u v.
+    ap (λ (t : Bool). t || columns (a .b) (a .a) v u) (or-false (columns (a .a) (a .b) u v))
+    ∙ columns-and-rows (a .a) (a .b) (omega (arith, start .pre)) (omega (arith, start .pre)) u v)
     (c .before .before .before .before .before .before .sweep .ensures) (c .before .before .sweep2 .ensures)
 
 pub ellipse-on-spec : {M : Type 1} → statement M

@@ -18,14 +18,14 @@ use Rattle.ring.proofs.sweep.Statement.{statement}
 use Rattle.ring.proofs.sweep.Tie as tie
 
 abbrev Inv-loop : tie.InvT-loop
-Inv-loop sheet₀ shape ink centre turn a b aa bb y₀ x₀ sheet y x =
+Inv-loop sheet₀ shape ink centre straight turn a b aa bb y₀ x₀ sheet y x =
     (x ≤ a + 1)
     × (y ≤ b)
     × (reach a b x < edge (a * a) y)
-    × (sheet ≡ paint shape ink (around (unmovedCell centre) (turned turn (before x (columns a b)))) sheet₀)
+    × (sheet ≡ paint shape ink (around (unmovedCell centre) (turned straight turn (before x (columns a b)))) sheet₀)
 
 abbrev μ-loop : tie.MeasureT-loop
-μ-loop sheet₀ shape ink centre turn a b aa bb y₀ x₀ sheet y x = a + 1 - x
+μ-loop sheet₀ shape ink centre straight turn a b aa bb y₀ x₀ sheet y x = a + 1 - x
 
 mul-aa : tie.Need-mul-aa Inv-loop μ-loop
 mul-aa c = omega (arith, sq-le {a = c .before .args .a} {b = 16383} (omega arith))
@@ -39,7 +39,7 @@ loop-holds c =
       omega arith,
       omega arith,
       reach-below (a .a) (a .b) 0 (omega arith),
-      sweep-begins (a .shape) (a .ink) (unmovedCell (a .centre)) (a .turn) (columns (a .a) (a .b)) (now (a .sheet)),
+      sweep-begins (a .shape) (a .ink) (unmovedCell (a .centre)) (a .straight) (a .turn) (columns (a .a) (a .b)) (now (a .sheet)),
     )
 
 mul-stepped-down : tie.Need-mul-stepped-down Inv-loop μ-loop
@@ -82,7 +82,7 @@ unfolding reach
 returns c =
     let a = c .before .before .before .before .before .args in
     let x = c .before .before .before .loop .x in
-    sweep-ends (a .shape) (a .ink) (unmovedCell (a .centre)) (a .turn) (columns (a .a) (a .b)) x
+    sweep-ends (a .shape) (a .ink) (unmovedCell (a .centre)) (a .straight) (a .turn) (columns (a .a) (a .b)) x
     (column-stops (a .a) (a .b) x (c .before .stepped-down .result) (c .before .stepped-down .ensures .0) (c .if1 .taken))
     (now (a .sheet)) _ (c .before .before .before .loop .inv .3)
 
@@ -106,7 +106,7 @@ loop-again c =
       omega arith,
       omega arith,
       omega (arith, reach-falls (a .a) (a .b) x (x + 1) (omega arith), n .high),
-      sweep-turn (a .shape) (a .ink) (unmovedCell (a .centre)) (a .turn) (columns (a .a) (a .b)) x y
+      sweep-turn (a .shape) (a .ink) (unmovedCell (a .centre)) (a .straight) (a .turn) (columns (a .a) (a .b)) x y
           (column-at (a .a) (a .b) x y n)
           (→columns (a .a) (a .b) x y (record { within = omega arith; sloped = c .before .before .before .before .if1 .left; least = n }))
           (now (a .sheet)) _ _ (at-loop .inv .3) (c .before .before .ink-turned .ensures),
@@ -121,7 +121,7 @@ returns-2 : tie.Need-returns-2 Inv-loop μ-loop
 returns-2 c =
     let a = c .before .before .before .args in
     let x = c .before .loop .x in
-    sweep-ends (a .shape) (a .ink) (unmovedCell (a .centre)) (a .turn) (columns (a .a) (a .b)) x
+    sweep-ends (a .shape) (a .ink) (unmovedCell (a .centre)) (a .straight) (a .turn) (columns (a .a) (a .b)) x
     (λ u v t. let h = columns→ (a .a) (a .b) u v t .within in omega arith)
     (now (a .sheet)) _ (c .before .loop .inv .3)
 
