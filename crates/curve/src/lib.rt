@@ -68,7 +68,7 @@ fn is_within(spot: Spot) -> bool
     ((49152 <= x) & (x <= 81919)) & ((49152 <= y) & (y <= 81919))
 }
 
-// Whether every joined point is within the limits: none lies outside the least and the greatest control value, so the control points are enough.
+// Whether every joined point is within the limits: each lies between the least and the greatest control value, so the control points are enough.
 fn all_within(controls: Controls, s: u32) -> bool
     requires { ⌜ Bends controls × (s ≤ 6) ⌝ }
     ensures { λ r. ⌜ r ≡ all (2 ^ s + 1) (λ (i : ℕ). inLimits (unmovedCell (jointAt controls s i))) ⌝ }

@@ -2,8 +2,8 @@
 use Prim.Native.Nat.{ℕ}
 use mathlib.Core.Path.{_≡_, refl, sym, subst, ap, _∙_}
 use mathlib.Core.List.{List, [], _∷_}
-use mathlib.Core.Logic.{_⊎_, inl, inr}
-use mathlib.Core.Bool.{Bool, true, false, cond, _&&_, _||_}
+use mathlib.Core.Logic.{inl, inr}
+use mathlib.Core.Bool.{Bool, true, false, cond, _||_, and-comm}
 use lib.Dec.{T}
 use lib.IntN.{pos}
 use lib.ListN.{length}
@@ -31,19 +31,13 @@ use Rattle.drawing.specs.declared.Filed.{Filed}
 use Rattle.drawing.proofs.Unique.{filed-one}
 
 -- One line: the answer does not depend on which end is named first ..
-and-either : (t u : Bool) → (t && u) ≡ (u && t)
-and-either true true = refl
-and-either true false = refl
-and-either false true = refl
-and-either false false = refl
-
 line-either : (a b : Cell) → onLine a b ≡ onLine b a
 line-either a b = λ i c. onLine-either a b c i
 
 pub answer-either : (k : Shape) (n : ℕ) (a b : Cell) → lineAnswer k n a b ≡ lineAnswer k n b a
 unfolding lineAnswer
 answer-either k n a b =
-    λ i. unless (fits k n) Size (unless (and-either (inLimits a) (inLimits b) i) Coordinate (done (pos (cellsOn k (line-either a b i)) ∷ [])))
+    λ i. unless (fits k n) Size (unless (and-comm (inLimits a) (inLimits b) i) Coordinate (done (pos (cellsOn k (line-either a b i)) ∷ [])))
 
 -- .. so that two replies that meet the contract of `line::draw_line`, one from each end, are equal, and so are the bytes left.
 pub same-line : (k : Shape) (ink : ℕ) (a b : Cell) (lent : List ℕ) (r q : Counted) (s t : List ℕ)
@@ -65,10 +59,6 @@ onAll : List Record → Cell → Bool
 onAll [] c = false
 onAll (r ∷ rs) c = onFigure (r .figure) c || onAll rs c
 
-either : {A B C : Type 0} → (A → C) → (B → C) → A ⊎ B → C
-either f g (inl a) = f a
-either f g (inr b) = g b
-
 named-on : (f : Figure) (qs : List Record) (c : Cell) → Named f qs → T (onFigure f c) → T (onAll qs c)
 unfolding onAll
 named-on f qs c (Named.here q rs s) t = or-l (onFigure (q .figure) c) (onAll rs c) (subst T (same-figure f (q .figure) c s) t)
@@ -77,7 +67,11 @@ named-on f qs c (Named.later q rs n) t = or-r (onFigure (q .figure) c) (onAll rs
 all-on : (ink : ℕ) (qs rs : List Record) (c : Cell) → AllNamed ink qs rs → T (onAll rs c) → T (onAll qs c)
 unfolding onAll
 all-on ink qs rs c AllNamed.none t = absurd t
-all-on ink qs rs c (AllNamed.also r rest e n h) t = either (named-on (r .figure) qs c n) (all-on ink qs rest c h) (or-e (onFigure (r .figure) c) (onAll rest c) t)
+all-on ink qs rs c (AllNamed.also r rest e n h) t =
+    elim (or-e (onFigure (r .figure) c) (onAll rest c) t) [
+      | inl u ↦ named-on (r .figure) qs c n u
+      | inr u ↦ all-on ink qs rest c h u
+    ]
 
 module _ (k : Shape) where
   -- in one ink the records are painted as one figure

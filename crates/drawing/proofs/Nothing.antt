@@ -6,7 +6,6 @@ use mathlib.Core.Bool.{true}
 use native.Mathlib.Omega.{arith}
 use lib.ListN.{getD}
 use lib.IntN.{ℤ, pos, natAbs}
-use lib.Dec.{T}
 use lib.Ieee.{Float, binary64, ofInt, sub, div, le, lt}
 use Rattle.laws.specs.Below.{all, any}
 use Rattle.sheet.specs.Sheet.{fits, onSheet, cellAt, held, byPlace, paint, coordinate, inLimits, isCell, cellOf, semiAxis}
@@ -28,7 +27,7 @@ use Rattle.survey.specs.declared.Metres.{Metres}
 use Rattle.survey.specs.declared.Metres.the-variants as metres
 use Rattle.survey.specs.declared.InCells.{InCells}
 use Rattle.survey.specs.declared.InCells.the-variants as cells
-use Rattle.survey.proofs.Cells.{cell-only}
+use Rattle.survey.proofs.Cells.{cell-is}
 use Rattle.record.specs.Layout.{signed, lineRow, table}
 use Rattle.record.specs.Reading.{valuesFrom, limitedFrom, rowFound, kindFound, foundAt, readAt}
 use Rattle.record.specs.declared.types.Figure.{Figure}
@@ -90,10 +89,6 @@ sound-home : sound home ≡ true
 unfolding sound ofInt lt
 sound-home = refl
 
--- the cell of a float, where its two comparisons compute to true
-is : (n : ℕ) (q : Float) → T (coordinate (pos n)) → T (isCellOf q (pos n)) → findCell q ≡ At (pos n)
-is n q l t = sym (cell-only q (At (pos n)) (l, t))
-
 abbrev leavesMetres : Metres → List ℕ
 leavesMetres f = settled (metresAnswer small 1 home f) (paint small 1 (onMetres home f) lent) lent
 
@@ -105,19 +100,19 @@ as-cells f c e = λ i. settled (unless (fits small 1) Size (cellsAnswer small (e
 -- 0.0 and 1.0, as positions and as lengths
 zero-at : findCell (div binary64 (sub binary64 (whole 0) (whole 0)) (whole 1)) ≡ At (pos 0)
 unfolding coordinate isCellOf sub div ofInt le lt
-zero-at = is 0 _ tt tt
+zero-at = cell-is _ (pos 0) tt tt
 
 one-at : findCell (div binary64 (sub binary64 (whole 1) (whole 0)) (whole 1)) ≡ At (pos 1)
 unfolding coordinate isCellOf sub div ofInt le lt
-one-at = is 1 _ tt tt
+one-at = cell-is _ (pos 1) tt tt
 
 zero-long : findCell (div binary64 (whole 0) (whole 1)) ≡ At (pos 0)
 unfolding coordinate isCellOf div ofInt le lt
-zero-long = is 0 _ tt tt
+zero-long = cell-is _ (pos 0) tt tt
 
 one-long : findCell (div binary64 (whole 1) (whole 1)) ≡ At (pos 1)
 unfolding coordinate isCellOf div ofInt le lt
-one-long = is 1 _ tt tt
+one-long = cell-is _ (pos 1) tt tt
 
 line-cells : inCells home (metres.Line (whole 0) (whole 0) (whole 0) (whole 0)) ≡ cells.Line (cellOf 0 0) (cellOf 0 0)
 unfolding inCells

@@ -1,5 +1,5 @@
 -- The answers of a pen: at each return of `next`, and of the lent form by those of `next`.
-use Prim.Native.Nat.{ℕ, _+_, _-_, _≤_, _<_}
+use Prim.Native.Nat.{ℕ, _-_, _≤_, _<_}
 use mathlib.Core.Path.{_≡_, refl, ap, _∙_}
 use mathlib.Core.List.{[], _++_}
 use mathlib.Core.Bool.{Bool, true, false, cond, _&&_}

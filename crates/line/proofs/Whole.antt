@@ -1,7 +1,7 @@
 -- A line whose two ends are on the sheet is on it whole, and one of one cell or two is its ends.
 use Prim.Native.Nat.{ℕ, zero, suc, _+_, _≤_, _<_}
 use mathlib.Core.Path.{_≡_, refl, sym, _∙_}
-use mathlib.Core.Bool.{Bool, true, false, cond, _||_}
+use mathlib.Core.Bool.{Bool, true, false, cond, _||_, or-self}
 use mathlib.Core.List.{List}
 use native.Mathlib.Omega.{arith}
 use Rattle.laws.specs.Below.{any}
@@ -61,12 +61,8 @@ end-cells : (c : Course) → c .long ≤ 1 → (d : Cell)
 unfolding firstCells any
 end-cells c l d = by (λ (i : ℕ). isCell (unmovedCell (spotAt c i)) d) (c .long) l
   where
-    twice : (t : Bool) → t ≡ (t || t)
-    twice true = refl
-    twice false = refl
-
     by : (hit : ℕ → Bool) (n : ℕ) → n ≤ 1 → any (n + 1) hit ≡ (hit 0 || hit n)
-    by hit zero m = twice (hit 0)
+    by hit zero m = sym (or-self (hit 0))
     by hit (suc zero) m = refl
     by hit (suc (suc n)) m = absurd (omega arith)
 

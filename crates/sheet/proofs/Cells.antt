@@ -1,5 +1,5 @@
 -- The cells of a sheet and their bytes.
-use Prim.Native.Nat.{ℕ, _+_, _-_, _*_, _<_}
+use Prim.Native.Nat.{ℕ, _+_, _*_, _<_}
 use mathlib.Core.Path.{_≡_, subst}
 use mathlib.Core.Bool.{true, _&&_}
 use native.Mathlib.Omega.{arith}

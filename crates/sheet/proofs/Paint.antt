@@ -2,7 +2,7 @@
 use Prim.Native.Nat.{ℕ, _<_}
 use mathlib.Core.Path.{_≡_, refl, sym, subst, ap, _∙_}
 use mathlib.Core.List.{List}
-use mathlib.Core.Bool.{Bool, true, false, cond, _&&_, _||_}
+use mathlib.Core.Bool.{Bool, true, false, cond, _&&_, _||_, and-false, and-or-distrib-left, or-self}
 use lib.ListN.{length, getD, set}
 use lib.Dec.{T, eqb, eqb→eq}
 use Rattle.laws.proofs.Tests.{and-r, and-i, same, from-true, eqb-of}
@@ -20,14 +20,6 @@ twice ink false true v = refl
 twice ink false false v = refl
 
 -- a byte is held by its cell: figures that agree on the sheet, a figure with no cell on it, one figure or another
-spread : (t a b : Bool) → ((t && a) || (t && b)) ≡ (t && (a || b))
-spread true a b = refl
-spread false a b = refl
-
-none : (t : Bool) → (t && false) ≡ false
-none true = refl
-none false = refl
-
 module _ (k : Shape) where
   pub held-as : (f g : Cell → Bool) → ((x y : ℕ) → x < k .width → y < k .height → f (cellOf x y) ≡ g (cellOf x y)) → (n : ℕ) → held k f n ≡ held k g n
   unfolding held cellAt
@@ -39,11 +31,11 @@ module _ (k : Shape) where
 
   pub held-none : (f : Cell → Bool) → ((x y : ℕ) → x < k .width → y < k .height → f (cellOf x y) ≡ false) → (n : ℕ) → held k f n ≡ false
   unfolding held
-  held-none f h n = held-as f (λ c. false) h n ∙ none (onSheet k (cellAt k n))
+  held-none f h n = held-as f (λ c. false) h n ∙ and-false (onSheet k (cellAt k n))
 
   pub held-then : (f g : Cell → Bool) (n : ℕ) → (held k f n || held k g n) ≡ held k (λ (c : Cell). f c || g c) n
   unfolding held
-  held-then f g n = spread (onSheet k (cellAt k n)) (f (cellAt k n)) (g (cellAt k n))
+  held-then f g n = sym (and-or-distrib-left (onSheet k (cellAt k n)) (f (cellAt k n)) (g (cellAt k n)))
 
   -- the byte of a cell on the sheet
   pub held-cell : (f : Cell → Bool) (x y : ℕ) → x < k .width → y < k .height → held k f (place k (cellOf x y)) ≡ f (cellOf x y)
@@ -116,15 +108,7 @@ module _ (k : Shape) (ink : ℕ) where
 
   -- painting twice is painting once
   pub paint-twice : (f : Cell → Bool) (s : List ℕ) → paint k ink f (paint k ink f s) ≡ paint k ink f s
-  paint-twice f s = paint-then f f s ∙ paint-as _ f s (λ x y a b. same _ _ (λ t. either-one (f (cellOf x y)) t) (λ t. one-either (f (cellOf x y)) t))
-    where
-      either-one : (t : Bool) → T (t || t) → T t
-      either-one true p = p
-      either-one false p = p
-
-      one-either : (t : Bool) → T t → T (t || t)
-      one-either true p = p
-      one-either false p = p
+  paint-twice f s = paint-then f f s ∙ paint-as _ f s (λ x y a b. or-self (f (cellOf x y)))
 
 -- later over earlier: a figure painted over one that it covers leaves nothing of it
 pub paint-over : (k : Shape) (ink over : ℕ) (f g : Cell → Bool) (s : List ℕ) → ((c : Cell) → T (f c) → T (g c))

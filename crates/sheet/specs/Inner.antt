@@ -1,5 +1,5 @@
 -- The moved plane, on which the code works: a coordinate z is held as z + 65,536, so that none is below 0, nor one of them less a radius.
-use Prim.Native.Nat.{ℕ, _+_, _≤_}
+use Prim.Native.Nat.{ℕ, _≤_}
 use mathlib.Core.Path.{_≡_}
 use mathlib.Core.List.{List}
 use mathlib.Core.Bool.{cond}

@@ -118,6 +118,10 @@ one-answer q NoCell NoCell a b = refl
 pub cell-only : (q : Float) (r : Found) → CellOf q r → r ≡ findCell q
 cell-only q r a = one-answer q r (findCell q) a (cell-right q)
 
+-- the cell of a float, where its two comparisons compute to true
+pub cell-is : (q : Float) (k : ℤ) → T (coordinate k) → T (isCellOf q k) → findCell q ≡ At k
+cell-is q k l t = sym (cell-only q (At k) (l, t))
+
 -- what the search found, and what it did not
 pub found-at : (j : ℕ) (k : ℤ) (q : Float) → Between j (j + 1) q → k ≡ fromLeast j → At k ≡ findCell q
 found-at j k q b e = ap At e ∙ cell-only q (At (fromLeast j)) (within-limits j (omega (arith, b .within)), between-cell j q b)

@@ -15,7 +15,7 @@ use Rattle.survey.specs.declared.Survey.{Survey}
 use Rattle.survey.specs.declared.Metres.{Metres}
 use Rattle.survey.specs.declared.Metres.the-variants.{Line, Circle, Ellipse}
 use Rattle.survey.proofs.Search.{none-high}
-use Rattle.survey.proofs.Cells.{cell-only, found-none}
+use Rattle.survey.proofs.Cells.{cell-is, found-none}
 
 -- the floats of the table: whole numbers, 1062.5 and −0.0
 abbrev metres : ℤ → Float
@@ -56,10 +56,6 @@ abbrev pub Hold : List Row → Type 0
 Hold [] = T true
 Hold (r ∷ rows) = (toldInCells (inCells (r .survey) (r .figure)) ≡ r .answer) × Hold rows
 
--- the cell k is the one, where its two comparisons compute to true
-is : (q : Float) (k : ℤ) → T (coordinate k) → T (isCellOf q k) → findCell q ≡ At k
-is q k l t = sym (cell-only q (At k) (l, t))
-
 -- and there is none, where q is not below 16,384
 far : (q : Float) → lt q (ofInt binary64 (pos 16384)) ≡ false → findCell q ≡ NoCell
 far q e = sym (found-none q (none-high q (ofInt binary64 (pos 16384)) refl e))
@@ -93,15 +89,15 @@ examples =
     let size = metres (pos 25) in
     let home = square zero size in
     let over : Float → Float → Float = λ position origin. div binary64 (sub binary64 position origin) size in
-    let origin = is (over minusZero zero) (pos 0) tt tt in
-    let own = is (over km km) (pos 0) tt tt in
-    let right = is (over (half (pos 2125)) km) (pos 2) tt tt in
-    let left = is (over (metres (pos 999)) km) (negsuc 0) tt tt in
+    let origin = cell-is (over minusZero zero) (pos 0) tt tt in
+    let own = cell-is (over km km) (pos 0) tt tt in
+    let right = cell-is (over (half (pos 2125)) km) (pos 2) tt tt in
+    let left = cell-is (over (metres (pos 999)) km) (negsuc 0) tt tt in
     let line = line-told (square km size) refl (half (pos 2125)) km (metres (pos 999)) km (pos 2) (pos 0) (negsuc 0) (pos 0) right own left own in
-    let two = is (div binary64 (metres (pos 60)) size) (pos 2) tt tt in
+    let two = cell-is (div binary64 (metres (pos 60)) size) (pos 2) tt tt in
     let circle = circle-told home refl minusZero minusZero (metres (pos 60)) (pos 0) (pos 0) (pos 2) origin origin two in
-    let three = is (div binary64 (metres (pos 75)) size) (pos 3) tt tt in
-    let below = is (div binary64 (metres (negsuc 0)) size) (negsuc 0) tt tt in
+    let three = cell-is (div binary64 (metres (pos 75)) size) (pos 3) tt tt in
+    let below = cell-is (div binary64 (metres (negsuc 0)) size) (negsuc 0) tt tt in
     let ellipse = ellipse-told home refl minusZero minusZero (metres (pos 75)) (metres (negsuc 0)) (pos 0) (pos 0) (pos 3) (negsuc 0) origin origin three below in
     let outside = circle-refused home refl (metres (pos 409600)) minusZero (metres (pos 60)) (far (over (metres (pos 409600)) zero) refl) in
     (line, (circle, (ellipse, (outside, (refl, tt)))))

@@ -1,5 +1,5 @@
 -- Zero, and a position that equals its origin.
-use mathlib.Core.Path.{_≡_, refl, sym, _∙_}
+use mathlib.Core.Path.{_≡_, refl, _∙_}
 use mathlib.Core.Bool.{Bool, true, false, not}
 use Prim.Native.Nat.{ℕ, _+_, _-_, _*_, _<_}
 use native.Mathlib.Nat.{mul-pos, zero-lt-suc}
@@ -18,7 +18,7 @@ use Rattle.survey.specs.Metres.{sound, findCoordinate, eastward, northwa
 use Rattle.survey.specs.declared.Found.the-variants.{At}
 use Rattle.survey.specs.declared.Survey.{Survey}
 use Rattle.survey.proofs.Order.{eq-to, eq-of}
-use Rattle.survey.proofs.Cells.{cell-only}
+use Rattle.survey.proofs.Cells.{cell-is}
 
 -- +0 or −0
 data Zero : Float → Type 0 where
@@ -71,8 +71,8 @@ div-zero x (fin false n d) (zero s) f l =
 -- zero is in cell 0
 zero-cell : (x : Float) → Zero x → findCell x ≡ At (pos 0)
 unfolding coordinate isCellOf ofInt le lt
-zero-cell x (zero true) = sym (cell-only (fin true 0 (pos 0)) (At (pos 0)) (tt, tt))
-zero-cell x (zero false) = sym (cell-only (fin false 0 (pos 0)) (At (pos 0)) (tt, tt))
+zero-cell x (zero true) = cell-is (fin true 0 (pos 0)) (pos 0) tt tt
+zero-cell x (zero false) = cell-is (fin false 0 (pos 0)) (pos 0) tt tt
 
 -- zero passes the code's test, so x - x passes it exactly where x is finite
 zero-eq : (x : Float) → Zero x → eq x (ofBits binary64 0) ≡ true

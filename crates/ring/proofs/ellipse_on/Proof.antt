@@ -1,6 +1,6 @@
 -- `ring::ellipse_on` meets its contract: columns, then rows.
-use mathlib.Core.Path.{_≡_, refl, ap, _∙_}
-use mathlib.Core.Bool.{Bool, true, false, _||_}
+use mathlib.Core.Path.{ap, _∙_}
+use mathlib.Core.Bool.{Bool, true, false, _||_, or-false}
 use native.Mathlib.Omega.{arith}
 use denote.Ref.{now}
 use Rattle.sheet.specs.Inner.{unmovedCell}
@@ -20,10 +20,6 @@ sweep-requires-2 c κs = search needs
 
 same-length : tie.Need-same-length
 same-length c = search needs
-
-or-false : (t : Bool) → (t || false) ≡ t
-or-false true = refl
-or-false false = refl
 
 returns : tie.Need-returns
 unfolding turned
