@@ -4,7 +4,7 @@ use mathlib.Core.Path.{_≡_, ap, ap₂, _∙_}
 use native.Mathlib.Nat.{pow-zero, pow-succ'}
 use native.Mathlib.Omega.{arith}
 use lib.IntN.{ℤ, pos, _+ℤ_, _*ℤ_, +ℤ-comm}
-use Rattle.laws.specs.Parts.{up, dn}
+use Rattle.laws.proofs.Parts.{up, dn}
 use Rattle.laws.proofs.Ints.{up-+, dn-+, up-*, dn-*, to-≡ℤ}
 use Rattle.curve.specs.Rule.{blend}
 

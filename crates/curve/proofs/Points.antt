@@ -7,7 +7,7 @@ use native.Mathlib.Nat.{pow-zero, pow-succ', mul-le-mul}
 use native.Mathlib.Omega.{arith}
 use lib.ListN.{length, getD, length-reverse}
 use lib.IntN.{ℤ, pos}
-use Rattle.laws.specs.Parts.{up, dn}
+use Rattle.laws.proofs.Parts.{up, dn}
 use Rattle.laws.proofs.Products.{lt-or-ge}
 use Rattle.sheet.specs.Inner.{unmoved}
 use Rattle.sheet.proofs.Limits.{stands-parts}

@@ -3,7 +3,7 @@ use Prim.Native.Nat.{ℕ, _+_, _*_, _/_, _≤_, _<_}
 use mathlib.Core.Path.{_≡_, sym, ap}
 use native.Mathlib.Omega.{arith}
 use lib.IntN.{ℤ, pos, negsuc, negℤ, _+ℤ_, _-ℤ_, _*ℤ_}
-use Rattle.laws.specs.Parts.{up, dn}
+use Rattle.laws.proofs.Parts.{up, dn}
 use Rattle.laws.proofs.Floor.{div-is, div-low, div-high}
 use Rattle.laws.proofs.Ints.{up-+, dn-+, up-*, dn-*, up-neg, dn-neg}
 use Rattle.curve.specs.Rule.{floor, rounded}

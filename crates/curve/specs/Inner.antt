@@ -1,4 +1,4 @@
--- The points on the moved plane, as the code finds them. Inner contracts only: no public contract cites this module.
+-- The points on the moved plane, as the code finds them.
 use Prim.Native.Nat.{ℕ, _+_, _-_, _*_, _/_, _^_}
 use mathlib.Core.Bool.{Bool}
 use Rattle.laws.specs.Below.{any}

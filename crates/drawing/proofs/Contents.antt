@@ -16,7 +16,8 @@ use Rattle.record.specs.declared.types.Read.{Read}
 use Rattle.record.specs.declared.types.Read.the-variants as read
 use Rattle.record.proofs.types.Read.{enum}
 use Rattle.record.proofs.Stands.{stands}
-use Rattle.drawing.specs.File.{joins, joined, contentsIn, contentsFrom, contents, recordsOf, closing}
+use Rattle.drawing.specs.File.{joins, joined, contentsIn, contentsFrom, contents, recordsOf}
+use Rattle.drawing.specs.Inner.{closing}
 
 -- a read that is no record
 abbrev pub NoRecord : Read → Type 0

@@ -15,14 +15,16 @@ use Rattle.sheet.specs.declared.Refusal.the-variants.{Size}
 use Rattle.sheet.proofs.Paint.{paint-length}
 use Rattle.sheet.proofs.Unique.{number-not-0}
 use Rattle.record.specs.Reading.{readAt, refuseAt}
-use Rattle.record.specs.File.{Contents, holds, refuses, contentsAnswer, toldChecked, closedBy}
+use Rattle.record.specs.File.{Contents, holds, refuses, contentsAnswer, toldChecked}
+use Rattle.record.specs.Inner.{closedBy}
 use Rattle.record.specs.declared.types.Record.{Record}
 use Rattle.record.specs.declared.types.Read.{Read}
 use Rattle.record.specs.declared.types.Read.the-variants as read
 use Rattle.record.proofs.types.Read.{enum}
 use Rattle.record.proofs.Stands.{stands}
 use Rattle.drawing.specs.Figure.{onFigure}
-use Rattle.drawing.specs.File.{contentsFrom, contents, recordsOf, closing, paintAll, drawFileAnswer}
+use Rattle.drawing.specs.File.{contentsFrom, contents, recordsOf, paintAll, drawFileAnswer}
+use Rattle.drawing.specs.Inner.{closing}
 use Rattle.drawing.proofs.Figures.{after, figure-drawn}
 use Rattle.drawing.proofs.Contents.{NoRecord, never, end-refused, contents-read, next-record}
 

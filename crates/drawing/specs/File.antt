@@ -64,8 +64,3 @@ drawFileAnswer k n file = cond (fits k n) (contentsAnswer (contents file)) (refu
 abbrev pub toldFiled : Filed → Answer
 toldFiled (filed.Done n) = done (pos n ∷ [])
 toldFiled (filed.Refused q at) = refuseAt q at
-
--- the read that closes the reading, the end or the refusal: for inner contracts
-abbrev pub closing : Contents → Read
-closing (holds rs) = read.End
-closing (refuses q at) = read.Refused q at

@@ -10,7 +10,8 @@ use mir.Syntax.{Width}
 use mir.Val.{SFits, Fits, bits, hbits, toZ, ofZ}
 use mir.Facts.{toZ-ofZ, toZ-pos}
 use borrow.Author.Tests.{ltb-true, ltb-false, leb-true, leb-false, eqb-true, eqb-false}
-use Rattle.laws.specs.Parts.{up, dn, eqZ}
+use Rattle.laws.specs.Equal.{eqZ}
+use Rattle.laws.proofs.Parts.{up, dn}
 use Rattle.laws.proofs.Tests.{is-true, is-false, from-true, eqb-of}
 
 -- from an order or an equation of whole numbers

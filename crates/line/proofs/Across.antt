@@ -6,7 +6,7 @@ use mathlib.Core.Logic.{inl, inr}
 use native.Mathlib.Nat.{mul-le-mul-right}
 use native.Mathlib.Omega.{arith}
 use Rattle.laws.proofs.Products.{lt-or-ge, mul-lt-back}
-use Rattle.line.specs.Course.{gap}
+use Rattle.line.specs.Inner.Course.{gap}
 use Rattle.line.specs.Rule.{rise}
 use Rattle.line.proofs.Rise.{rise-low, rise-high, rise-none, rise-start, rise-short}
 

@@ -11,9 +11,9 @@ use lib.IntN.{ℤ}
 use Rattle.sheet.specs.Inner.{unmoved}
 use Rattle.sheet.specs.declared.Cell.{Cell}
 use Rattle.line.specs.Listing.{cellsOf}
-use Rattle.line.specs.Course.{stepped}
-use Rattle.line.specs.Fixed.{gone}
-use Rattle.line.specs.Along.{over, numberAt, reached, along, Bounded}
+use Rattle.line.specs.Inner.Course.{stepped}
+use Rattle.line.specs.Inner.Fixed.{gone}
+use Rattle.line.specs.Inner.Along.{over, numberAt, reached, along, Bounded}
 use Rattle.line.proofs.Rise.{from-either}
 
 -- one place more

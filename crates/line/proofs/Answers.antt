@@ -20,7 +20,7 @@ use Rattle.sheet.proofs.Limits.{LiftedCell, lifted-cell}
 use Rattle.sheet.proofs.Paint.{paint-as}
 use Rattle.line.specs.Rule.{long, nth, onLine}
 use Rattle.line.specs.Draw.{lineAnswer}
-use Rattle.line.specs.Course.{courseOf, Runs, firstCells}
+use Rattle.line.specs.Inner.Course.{courseOf, Runs, firstCells}
 use Rattle.line.specs.declared.Course.{Course}
 use Rattle.line.proofs.Bridge.{course-runs, course-cell, course-long}
 

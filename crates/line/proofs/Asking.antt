@@ -16,7 +16,8 @@ use Rattle.sheet.specs.declared.Cell.{Cell}
 use Rattle.sheet.specs.declared.Refusal.the-variants.{Coordinate}
 use Rattle.line.specs.Rule.{long}
 use Rattle.line.specs.Listing.{listed}
-use Rattle.line.specs.Pen.{penValues, toldBegun, toldStep, fresh, beginAnswer, hasCell, nextCell, movedOn, nextAnswer, askAnswer, left, askedOf}
+use Rattle.line.specs.Pen.{penValues, toldBegun, toldStep, fresh, beginAnswer, hasCell, nextCell, movedOn, nextAnswer, askAnswer, left}
+use Rattle.line.specs.Inner.Step.{askedOf}
 use Rattle.line.specs.Asking.{Asks, Lends, Lists, Reached, begun, asked, lent}
 use Rattle.line.specs.declared.pen.Pen.{Pen}
 use Rattle.line.specs.declared.pen.Begun.the-variants as begin

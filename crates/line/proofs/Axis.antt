@@ -6,10 +6,10 @@ use mathlib.Core.Logic.{_⊎_, inl, inr}
 use native.Mathlib.Omega.{arith}
 use lib.IntN.{ℤ, pos, natAbs, _+ℤ_, _-ℤ_}
 use lib.Signed.{leZ}
-use Rattle.laws.specs.Parts.{up, dn}
+use Rattle.laws.proofs.Parts.{up, dn}
 use Rattle.laws.proofs.Ints.{parts, one-zero, to-≡ℤ, from-≡ℤ, leZ-true, leZ-false}
 use Rattle.laws.proofs.Products.{lt-or-ge}
-use Rattle.line.specs.Course.{gap}
+use Rattle.line.specs.Inner.Course.{gap}
 use Rattle.line.specs.Rule.{toward}
 use Rattle.line.specs.Distance.{steps}
 

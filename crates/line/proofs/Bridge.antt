@@ -7,7 +7,7 @@ use borrow.Author.Tests.{ltb-true, ltb-false, eqb-true, le-leb}
 use lib.Dec.{T, ltb, leb, eqb, ltb→lt, lt→ltb, leb→le, le→leb, eqb→eq}
 use lib.IntN.{ℤ, pos, natAbs, _+ℤ_, _-ℤ_}
 use lib.Signed.{ltZ, leZ}
-use Rattle.laws.specs.Parts.{eqZ}
+use Rattle.laws.specs.Equal.{eqZ}
 use Rattle.laws.proofs.Ints.{parts, one-zero, le-parts, lt-parts, to-leZ, to-ltZ, to-≡ℤ, from-≡ℤ, eqZ→≡, eqZ-refl}
 use Rattle.laws.proofs.Tests.{same, from-true, eqb-of}
 use Rattle.sheet.specs.Inner.{unmoved, unmovedCell, Moved}
@@ -15,7 +15,7 @@ use Rattle.sheet.specs.declared.Cell.{Cell}
 use Rattle.sheet.specs.declared.Spot.{Spot}
 use Rattle.sheet.proofs.Limits.{LiftedCell, stands-parts}
 use Rattle.line.specs.Rule.{lesser, wide, tall, longer, shorter, long, rise, toward, fromLesser, nth}
-use Rattle.line.specs.Course.{gap, stepped, spotAt, lesserSpot, courseFrom, courseOf, Runs}
+use Rattle.line.specs.Inner.Course.{gap, stepped, spotAt, lesserSpot, courseFrom, courseOf, Runs}
 use Rattle.line.proofs.Rise.{rise-le}
 
 -- m stands for z

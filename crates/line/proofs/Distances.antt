@@ -5,11 +5,11 @@ use mathlib.Core.Bool.{Bool, true, false, cond}
 use mathlib.Core.Logic.{inl, inr}
 use native.Mathlib.Omega.{arith}
 use lib.IntN.{ℤ, pos, natAbs, _-ℤ_, _*ℤ_}
-use Rattle.laws.specs.Parts.{up, dn}
+use Rattle.laws.proofs.Parts.{up, dn}
 use Rattle.laws.proofs.Ints.{parts}
 use Rattle.laws.proofs.Products.{lt-or-ge}
 use Rattle.sheet.specs.declared.Cell.{Cell}
-use Rattle.line.specs.Course.{gap}
+use Rattle.line.specs.Inner.Course.{gap}
 use Rattle.line.specs.Rule.{lesser, wide, tall, long, short, steep}
 use Rattle.line.specs.Listing.{listed}
 use Rattle.line.specs.Distance.{steps, along, alongBy, acrossBy, distanceBy, distance}

@@ -6,7 +6,8 @@ use native.Mathlib.Omega.{arith}
 use lib.Dec.{T, ltb}
 use lib.IntN.{ℤ}
 use lib.Signed.{ltZ, leZ}
-use Rattle.laws.specs.Parts.{up, dn, eqZ}
+use Rattle.laws.specs.Equal.{eqZ}
+use Rattle.laws.proofs.Parts.{up, dn}
 use Rattle.laws.proofs.Ints.{le-parts, to-≡ℤ, from-≡ℤ, ltZ-true, ltZ-false, leZ-false, eqZ→≡, eqZ-refl}
 use Rattle.laws.proofs.Tests.{and-l, and-r, is-true, from-true}
 use Rattle.sheet.specs.declared.Cell.{Cell}

@@ -12,9 +12,9 @@ use Rattle.sheet.specs.declared.Spot.{Spot}
 use Rattle.sheet.proofs.Limits.{LiftedCell}
 use Rattle.line.specs.Rule.{rise, long, nth}
 use Rattle.line.specs.Listing.{listed, listedOver}
-use Rattle.line.specs.Course.{stepped, spotAt, lesserSpot, courseOf, Runs}
-use Rattle.line.specs.Fixed.{slope, gone, tally}
-use Rattle.line.specs.Along.{over, numberAt, along, Bounded, courseCell}
+use Rattle.line.specs.Inner.Course.{stepped, spotAt, lesserSpot, courseOf, Runs}
+use Rattle.line.specs.Inner.Fixed.{slope, gone, tally}
+use Rattle.line.specs.Inner.Along.{over, numberAt, along, Bounded, courseCell}
 use Rattle.line.specs.declared.Course.{Course}
 use Rattle.line.proofs.Bridge.{lesser-is, course-cell, course-long, course-runs}
 use Rattle.line.proofs.Hops.{exchanged}

@@ -10,7 +10,7 @@ use lib.Dec.{ltb}
 use Rattle.laws.proofs.Floor.{div-is, div-low, div-high}
 use Rattle.laws.proofs.Products.{mul-lt-back}
 use Rattle.line.specs.Rule.{rise}
-use Rattle.line.specs.Fixed.{slope, gone, tally}
+use Rattle.line.specs.Inner.Fixed.{slope, gone, tally}
 use Rattle.line.proofs.Rise.{rise-low, rise-high, rise-start}
 
 -- the bounds that make the slope

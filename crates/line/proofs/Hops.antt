@@ -7,8 +7,8 @@ use native.Mathlib.Omega.{arith}
 use Rattle.sheet.specs.declared.Shape.{Shape}
 use Rattle.sheet.specs.declared.Spot.{Spot}
 use Rattle.line.specs.Rule.{rise}
-use Rattle.line.specs.Course.{stepped, spotAt}
-use Rattle.line.specs.Span.{On, byteOf, aloneBy, bothBy}
+use Rattle.line.specs.Inner.Course.{stepped, spotAt}
+use Rattle.line.specs.Inner.Span.{On, byteOf, aloneBy, bothBy}
 use Rattle.line.specs.declared.Course.{Course}
 use Rattle.line.proofs.Rise.{rise-short}
 

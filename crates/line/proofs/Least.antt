@@ -4,7 +4,7 @@ use mathlib.Core.Path.{_≡_, ap}
 use native.Mathlib.Nat.{div-lt-iff-lt-mul, le-div-iff-mul-le, mul-le-mul, mul-le-mul-right}
 use native.Mathlib.Omega.{arith}
 use Rattle.line.specs.Rule.{rise}
-use Rattle.line.specs.Span.{Least}
+use Rattle.line.specs.Inner.Span.{Least}
 use Rattle.line.proofs.Rise.{rise-short}
 
 module _ (l s n k : ℕ) (p : 0 < l) where

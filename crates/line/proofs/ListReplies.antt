@@ -17,8 +17,8 @@ use Rattle.sheet.specs.declared.Refusal.the-variants.{Coordinate, Room}
 use Rattle.sheet.proofs.Limits.{LiftedCell, lifted-cell}
 use Rattle.line.specs.Rule.{long}
 use Rattle.line.specs.Listing.{listAnswer, listedOver}
-use Rattle.line.specs.Course.{lesserSpot, courseOf, Runs}
-use Rattle.line.specs.Along.{over, courseCell}
+use Rattle.line.specs.Inner.Course.{lesserSpot, courseOf, Runs}
+use Rattle.line.specs.Inner.Along.{over, courseCell}
 use Rattle.line.specs.declared.Course.{Course}
 use Rattle.line.proofs.Bridge.{course-long, course-runs}
 use Rattle.line.proofs.Filled.{course-listed}

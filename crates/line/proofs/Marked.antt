@@ -22,8 +22,8 @@ use Rattle.sheet.proofs.Paint.{paint-as, paint-none, paint-then}
 use Rattle.sheet.proofs.Count.{cells-as, cells-none, cells-more}
 use Rattle.sheet.proofs.Marks.{spot→, mark-on}
 use Rattle.line.specs.Rule.{rise}
-use Rattle.line.specs.Course.{stepped, spotAt, Runs, firstCells}
-use Rattle.line.specs.Span.{On, byteOf}
+use Rattle.line.specs.Inner.Course.{stepped, spotAt, Runs, firstCells}
+use Rattle.line.specs.Inner.Span.{On, byteOf}
 use Rattle.line.specs.declared.Course.{Course}
 
 module _ (k : Shape) (c : Course) where

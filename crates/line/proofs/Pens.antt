@@ -13,8 +13,9 @@ use Rattle.sheet.specs.declared.Spot.{Spot}
 use Rattle.sheet.proofs.Limits.{lifted-cell}
 use Rattle.line.specs.Rule.{long}
 use Rattle.line.specs.Listing.{listed}
-use Rattle.line.specs.Course.{spotAt, lesserSpot, courseOf, Runs}
-use Rattle.line.specs.Pen.{cellValues, penValues, toldStep, toldAsked, hasCell, nextCell, movedOn, nextAnswer, askAnswer, left, askedOf, keptOf}
+use Rattle.line.specs.Inner.Course.{spotAt, lesserSpot, courseOf, Runs}
+use Rattle.line.specs.Pen.{cellValues, penValues, toldStep, toldAsked, hasCell, nextCell, movedOn, nextAnswer, askAnswer, left, keptOf}
+use Rattle.line.specs.Inner.Step.{askedOf}
 use Rattle.line.specs.declared.Course.{Course}
 use Rattle.line.specs.declared.pen.Pen.{Pen}
 use Rattle.line.specs.declared.pen.Step.{Step}

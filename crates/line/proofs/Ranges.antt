@@ -5,8 +5,8 @@ use mathlib.Core.Bool.{Bool, true, false, cond}
 use mathlib.Core.Logic.{_⊎_, inl, inr, ⊎-elim}
 use native.Mathlib.Omega.{arith}
 use Rattle.sheet.specs.declared.Shape.{Shape}
-use Rattle.line.specs.Course.{stepped, spotAt}
-use Rattle.line.specs.Span.{enters, leaves, stepsX, stepsY, Least, Enters, Leaves, Spans}
+use Rattle.line.specs.Inner.Course.{stepped, spotAt}
+use Rattle.line.specs.Inner.Span.{enters, leaves, stepsX, stepsY, Least, Enters, Leaves, Spans}
 use Rattle.line.specs.declared.Course.{Course}
 
 -- along one axis: k steps from m are on the sheet just where they are in the range

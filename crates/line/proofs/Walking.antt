@@ -14,9 +14,9 @@ use Rattle.sheet.specs.declared.Shape.{Shape}
 use Rattle.sheet.proofs.Cells.{place-below}
 use Rattle.sheet.proofs.Count.{cells-as}
 use Rattle.sheet.proofs.Paint.{paint-length}
-use Rattle.line.specs.Course.{spotAt, Runs, firstCells}
-use Rattle.line.specs.Fixed.{slope, tally}
-use Rattle.line.specs.Span.{On, Spans, byteOf, aloneBy, bothBy}
+use Rattle.line.specs.Inner.Course.{spotAt, Runs, firstCells}
+use Rattle.line.specs.Inner.Fixed.{slope, tally}
+use Rattle.line.specs.Inner.Span.{On, Spans, byteOf, aloneBy, bothBy}
 use Rattle.line.specs.declared.Course.{Course}
 use Rattle.line.proofs.Fixed.{part-next, rise-next}
 use Rattle.line.proofs.Hops.{byte-hop}

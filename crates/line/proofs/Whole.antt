@@ -12,8 +12,8 @@ use Rattle.sheet.specs.declared.Shape.{Shape}
 use Rattle.sheet.specs.declared.Spot.{Spot}
 use Rattle.sheet.proofs.Paint.{paint-as, paint-then}
 use Rattle.line.specs.Rule.{rise}
-use Rattle.line.specs.Course.{stepped, spotAt, Runs, firstCells}
-use Rattle.line.specs.Span.{stepsX, stepsY, On, Spans}
+use Rattle.line.specs.Inner.Course.{stepped, spotAt, Runs, firstCells}
+use Rattle.line.specs.Inner.Span.{stepsX, stepsY, On, Spans}
 use Rattle.line.specs.declared.Course.{Course}
 use Rattle.line.proofs.Rise.{rise-start, rise-short, rise-end}
 

@@ -5,7 +5,7 @@ use mathlib.Core.Bool.{Bool, true, false, cond}
 use native.Mathlib.Omega.{arith}
 use lib.IntN.{ℤ, pos, natAbs, _+ℤ_, _-ℤ_}
 use lib.Signed.{leZ}
-use Rattle.laws.specs.Parts.{up, dn}
+use Rattle.laws.proofs.Parts.{up, dn}
 use Rattle.laws.proofs.Ints.{parts, natAbs-is, one-zero, leZ-true, leZ-false}
 use Rattle.sheet.specs.Sheet.{coordinate, inLimits}
 use Rattle.sheet.specs.Inner.{loweredCell}
@@ -14,7 +14,7 @@ use Rattle.sheet.specs.declared.Spot.{Spot}
 use Rattle.sheet.proofs.Limits.{LiftedCell, limit-low, limit-high, limit-in, limits-x, limits-y, lowered-cell}
 use Rattle.line.specs.Rule.{lesser, wide, tall, long, steep, rise, toward, fromLesser, nth}
 use Rattle.line.specs.Listing.{listed}
-use Rattle.line.specs.Course.{spotAt, lesserSpot, courseOf}
+use Rattle.line.specs.Inner.Course.{spotAt, lesserSpot, courseOf}
 use Rattle.line.proofs.Bridge.{lesser-is, course-cell, course-long, long-limit}
 use Rattle.line.proofs.EitherEnd.{long-sym}
 use Rattle.line.proofs.Rise.{rise-short, from-either}

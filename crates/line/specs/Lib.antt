@@ -1,12 +1,9 @@
 pub mod Asking
 pub mod Chain
-pub mod Course
 pub mod Demand
 pub mod Distance
 pub mod Draw
-pub mod Fixed
+pub mod Inner
 pub mod Listing
 pub mod Pen
 pub mod Rule
-pub mod Span
-pub mod Along

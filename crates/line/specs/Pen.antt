@@ -70,11 +70,7 @@ askAnswer p = done (cond (hasCell p) (cellValues (nextCell p)) [])
 unfoldable pub left : Pen → Pen
 left p = cond (hasCell p) (movedOn p) p
 
--- what a step tells of the lent form: the cell, and the pen that was p before
-abbrev pub askedOf : Step → Asked
-askedOf (step.Cell c q) = asked.Cell c
-askedOf step.Finished = asked.Finished
-
+-- the pen after a step, which was p before
 abbrev pub keptOf : Step → Pen → Pen
 keptOf (step.Cell c q) p = q
 keptOf step.Finished p = p

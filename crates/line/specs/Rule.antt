@@ -5,7 +5,7 @@ use lib.Dec.{ltb}
 use lib.IntN.{ℤ, pos, natAbs, _+ℤ_, _-ℤ_}
 use lib.Signed.{ltZ, leZ}
 use Rattle.laws.specs.Below.{any}
-use Rattle.laws.specs.Parts.{eqZ}
+use Rattle.laws.specs.Equal.{eqZ}
 use Rattle.sheet.specs.Sheet.{isCell}
 use Rattle.sheet.specs.declared.Cell.{Cell}
 

@@ -2,9 +2,9 @@
 ghost use mathlib.Core.Path.{_≡_};
 ghost use mathlib.Core.Bool.{cond};
 ghost use Prim.Native.Nat.{_≤_};
-ghost use Rattle.line.specs.Course.{gap, stepped, spotAt, lesserSpot, courseFrom, courseOf, Runs};
+ghost use Rattle.line.specs.Inner.Course.{gap, stepped, spotAt, lesserSpot, courseFrom, courseOf, Runs};
 ghost use Rattle.line.specs.Rule.{rise};
-ghost use Rattle.line.specs.Fixed.{slope};
+ghost use Rattle.line.specs.Inner.Fixed.{slope};
 use sheet::Spot;
 
 mod draw;

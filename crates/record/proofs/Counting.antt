@@ -9,7 +9,8 @@ use lib.IntN.{pos}
 use lib.ListN.{length}
 use Rattle.sheet.specs.Reply.{Answer, done}
 use Rattle.record.specs.Reading.{readAt, refuseAt}
-use Rattle.record.specs.File.{Contents, holds, refuses, also, readFrom, readAll, contentsAnswer, fileAnswer, toldChecked, closedBy}
+use Rattle.record.specs.File.{Contents, holds, refuses, also, readFrom, readAll, contentsAnswer, fileAnswer, toldChecked}
+use Rattle.record.specs.Inner.{closedBy}
 use Rattle.record.specs.declared.types.Record.{Record}
 use Rattle.record.specs.declared.types.Read.{Read}
 use Rattle.record.specs.declared.types.Read.the-variants as read

@@ -10,7 +10,8 @@ use Rattle.sheet.specs.Sheet.{inLimits, radius, semiAxis, split}
 use Rattle.sheet.specs.declared.Cell.{Cell}
 use Rattle.sheet.specs.declared.Refusal.{Refusal}
 use Rattle.sheet.specs.declared.Refusal.the-variants.{Coordinate, Radius, Pieces, Length}
-use Rattle.record.specs.Layout.{Row, wordAt, cellAt, lineRow, circleRow, ellipseRow, curveRow}
+use Rattle.record.specs.Layout.{Row, wordAt, lineRow, circleRow, ellipseRow, curveRow}
+use Rattle.record.specs.Inner.{cellAt}
 use Rattle.record.specs.Reading.{Found, unlessAt, valuesFrom, limitedFrom, rowFound, readOf}
 use Rattle.record.specs.declared.types.Figure.the-variants.{Line, Circle, Ellipse, Curve}
 use Rattle.record.specs.declared.types.Read.the-variants.{Record, Refused}

@@ -53,9 +53,3 @@ fileAnswer s = contentsAnswer (readAll s)
 abbrev pub toldChecked : Checked → Answer
 toldChecked (checked.Done n) = done (pos n ∷ [])
 toldChecked (checked.Refused q at) = refuseAt q at
-
--- a read that is no record, after n records
-abbrev pub closedBy : Read → ℕ → Checked
-closedBy (read.Record r) n = checked.Done n
-closedBy read.End n = checked.Done n
-closedBy (read.Refused q at) n = checked.Refused q at

@@ -92,7 +92,3 @@ curveRow =
 -- the table
 unfoldable pub table : List Row
 table = lineRow ∷ circleRow ∷ ellipseRow ∷ curveRow ∷ []
-
--- a cell: x, then y
-abbrev pub cellAt : List ℕ → ℕ → Cell
-cellAt s k = record { x = valueAt coordinate s k; y = valueAt coordinate s (k + 2) }

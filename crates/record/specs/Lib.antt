@@ -1,3 +1,4 @@
+pub mod File
+pub mod Inner
 pub mod Layout
 pub mod Reading
-pub mod File

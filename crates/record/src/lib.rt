@@ -11,9 +11,11 @@ ghost use mathlib.Core.Path.{_≡_};
 ghost use Prim.Native.Nat.{_+_, _*_, _<_};
 ghost use lib.ListN.{length};
 ghost use Rattle.sheet.specs.Sheet.{semiAxis};
-ghost use Rattle.record.specs.Layout.{wordAt, signed, cellAt, lineRow, circleRow, ellipseRow, curveRow, table};
+ghost use Rattle.record.specs.Layout.{wordAt, signed, lineRow, circleRow, ellipseRow, curveRow, table};
+ghost use Rattle.record.specs.Inner.{cellAt};
 ghost use Rattle.record.specs.Reading.{rowFound, kindFound, readOf, readAt, readAnswer, toldRead};
-ghost use Rattle.record.specs.File.{closedBy, fileAnswer, toldChecked};
+ghost use Rattle.record.specs.File.{fileAnswer, toldChecked};
+ghost use Rattle.record.specs.Inner.{closedBy};
 
 // A byte, widened.
 fn wide(x: u8) -> u32

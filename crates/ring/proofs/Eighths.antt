@@ -9,7 +9,7 @@ use borrow.Author.Tests.{le-ltb, le-leb}
 use lib.Dec.{T, leb, eqb, leb→le, le→leb, eqb→eq, eqb·suc-zero}
 use lib.IntN.{ℤ, pos, _-ℤ_}
 use lib.Signed.{leZ, ltZ}
-use Rattle.laws.specs.Parts.{up, dn}
+use Rattle.laws.proofs.Parts.{up, dn}
 use Rattle.laws.proofs.Ints.{parts, le-parts, lt-parts, to-leZ, to-ltZ}
 use Rattle.laws.proofs.Products.{sq-le, sq-lt-back}
 use Rattle.laws.proofs.Tests.{and-l, and-r, and-i, or-l, or-e, same}

@@ -3,7 +3,7 @@ use Prim.Native.Nat.{ℕ}
 use mathlib.Core.Bool.{Bool, _&&_, _||_}
 use lib.IntN.{ℤ, pos, natAbs, _+ℤ_, _-ℤ_, _*ℤ_}
 use lib.Signed.{leZ, ltZ}
-use Rattle.laws.specs.Parts.{eqZ}
+use Rattle.laws.specs.Equal.{eqZ}
 use Rattle.sheet.specs.declared.Cell.{Cell}
 
 -- how far a coordinate is from the centre's, in either direction

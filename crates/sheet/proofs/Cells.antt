@@ -8,7 +8,8 @@ use lib.Arith.{digits-lt, digits-div, digits-mod}
 use lib.Dec.{T, leb, ltb, ltb→lt, lt→ltb, le→leb}
 use lib.IntN.{ℤ, pos}
 use lib.Signed.{leZ, ltZ}
-use Rattle.laws.specs.Parts.{up, eqZ}
+use Rattle.laws.specs.Equal.{eqZ}
+use Rattle.laws.proofs.Parts.{up}
 use Rattle.laws.proofs.Ints.{le-parts, lt-parts, to-≡ℤ, one-zero, eqZ→≡, eqZ-refl}
 use Rattle.laws.proofs.Tests.{and-l, and-r, and-i, is-true, from-true}
 use Rattle.sheet.specs.Sheet.{bytes, onSheet, place, cellOf, cellAt, isCell}

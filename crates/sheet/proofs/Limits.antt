@@ -12,7 +12,7 @@ use lib.Signed.{leZ}
 use mir.Syntax.{w32}
 use mir.Val.{SFits, toZ, ofZ}
 use mir.Facts.{toZ-ofZ}
-use Rattle.laws.specs.Parts.{up, dn}
+use Rattle.laws.proofs.Parts.{up, dn}
 use Rattle.laws.proofs.Ints.{le-parts, one-zero, parts, to-≡ℤ, is-leZ, no-leZ}
 use Rattle.laws.proofs.Tests.{and-l, and-r, and-i, same, is-true, from-true}
 use Rattle.sheet.specs.Sheet.{size, bytes, fits, coordinate, inLimits, cellOf}

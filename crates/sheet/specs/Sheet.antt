@@ -6,7 +6,7 @@ use lib.Dec.{leb, eqb}
 use lib.IntN.{ℤ, pos, negℤ, natAbs}
 use lib.Signed.{leZ, ltZ}
 use Rattle.laws.specs.Below.{count}
-use Rattle.laws.specs.Parts.{eqZ}
+use Rattle.laws.specs.Equal.{eqZ}
 use Rattle.sheet.specs.declared.Cell.{Cell}
 use Rattle.sheet.specs.declared.Shape.{Shape}
 

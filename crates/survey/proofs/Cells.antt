@@ -7,7 +7,7 @@ use native.Mathlib.Omega.{arith}
 use lib.Dec.{T}
 use lib.IntN.{ℤ, pos, _+ℤ_}
 use lib.Ieee.{Float, nan, inf, binary64, ofInt, le, lt}
-use Rattle.laws.specs.Parts.{up, dn}
+use Rattle.laws.proofs.Parts.{up, dn}
 use Rattle.laws.proofs.Ints.{parts, one-zero, to-≡ℤ}
 use Rattle.laws.proofs.Tests.{and-l, and-r, and-i, from-true, is-true}
 use Rattle.laws.proofs.Products.{lt-or-ge}

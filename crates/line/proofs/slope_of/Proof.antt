@@ -1,7 +1,7 @@
 -- `line::slope_of` meets its contract.
 use mathlib.Core.Path.{refl}
 use native.Mathlib.Omega.{arith}
-use Rattle.line.specs.Fixed.{slope}
+use Rattle.line.specs.Inner.Fixed.{slope}
 use Rattle.line.proofs.Fixed.{slope-none, slope-fits}
 use borrow.Author.Needs.{needs}
 use Rattle.line.proofs.slope_of.Statement.{statement}

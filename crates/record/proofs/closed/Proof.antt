@@ -1,7 +1,7 @@
 -- `record::closed` meets its contract.
 use mathlib.Core.Path.{sym, ap}
 use borrow.Author.Needs.{needs}
-use Rattle.record.specs.File.{closedBy}
+use Rattle.record.specs.Inner.{closedBy}
 use Rattle.record.specs.declared.types.Read.{Read}
 use Rattle.record.proofs.closed.Statement.{statement}
 use Rattle.record.proofs.closed.Tie as tie

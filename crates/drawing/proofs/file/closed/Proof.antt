@@ -1,6 +1,7 @@
 -- `drawing::file::closed` meets its contract.
 use mathlib.Core.Path.{sym, ap}
-use Rattle.record.specs.File.{toldChecked, closedBy}
+use Rattle.record.specs.File.{toldChecked}
+use Rattle.record.specs.Inner.{closedBy}
 use Rattle.record.specs.declared.types.Read.{Read}
 use borrow.Author.Needs.{needs}
 use Rattle.drawing.proofs.file.closed.Statement.{statement}

@@ -6,7 +6,8 @@ use lib.ListN.{length}
 use Rattle.laws.proofs.Tests.{no, yes}
 use Rattle.sheet.specs.Sheet.{fits}
 use Rattle.record.specs.declared.types.Read.the-variants as read
-use Rattle.drawing.specs.File.{contents, closing, toldFiled}
+use Rattle.drawing.specs.File.{contents, toldFiled}
+use Rattle.drawing.specs.Inner.{closing}
 use Rattle.drawing.proofs.Records.{file-size, file-refused, file-drawn}
 use borrow.Author.Needs.{needs}
 use Rattle.drawing.proofs.file.draw_file.Statement.{statement}

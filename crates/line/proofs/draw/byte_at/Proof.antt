@@ -2,7 +2,7 @@
 use Prim.Native.Nat.{_-_, _*_, _≤_}
 use mathlib.Core.Path.{sym, subst, ap}
 use native.Mathlib.Omega.{arith}
-use Rattle.line.specs.Span.{On, byteOf}
+use Rattle.line.specs.Inner.Span.{On, byteOf}
 use Rattle.line.proofs.Hops.{row-small}
 use borrow.Author.Needs.{needs}
 use Rattle.line.proofs.draw.byte_at.Statement.{statement}

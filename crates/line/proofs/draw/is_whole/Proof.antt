@@ -3,7 +3,7 @@ use mathlib.Core.Path.{sym, subst}
 use mathlib.Core.Bool.{_&&_}
 use native.Mathlib.Omega.{arith}
 use Rattle.laws.proofs.Tests.{and-l, and-r, is-true, from-true}
-use Rattle.line.specs.Span.{On}
+use Rattle.line.specs.Inner.Span.{On}
 use Rattle.line.proofs.Rise.{rise-start, rise-end}
 use Rattle.line.proofs.Whole.{whole}
 use borrow.Author.Needs.{needs}

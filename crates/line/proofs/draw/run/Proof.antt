@@ -3,7 +3,7 @@ use Prim.Native.Nat.{_+_, _-_}
 use mathlib.Core.Path.{_≡_, _∙_}
 use native.Mathlib.Omega.{arith}
 use denote.Ref.{now}
-use Rattle.line.specs.Span.{Spans}
+use Rattle.line.specs.Inner.Span.{Spans}
 use Rattle.line.proofs.Ranges.{spans}
 use Rattle.line.proofs.Walking.{counted, nothing}
 use borrow.Author.Needs.{needs}

@@ -4,7 +4,7 @@ use mathlib.Core.Path.{_≡_, ap, _∙_}
 use native.Mathlib.Omega.{arith}
 use lib.ListN.{length}
 use denote.Ref.{now}
-use Rattle.line.specs.Along.{over, along}
+use Rattle.line.specs.Inner.Along.{over, along}
 use Rattle.line.proofs.Rise.{from-either}
 use Rattle.line.proofs.Along.{Running, begins, turn, number-first, gain-le, within, over-length}
 use Rattle.line.proofs.listing.list_along.Statement.{statement}

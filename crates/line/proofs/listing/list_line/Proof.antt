@@ -6,7 +6,7 @@ use lib.ListN.{length}
 use denote.Ref.{now}
 use Rattle.laws.proofs.Tests.{no, yes}
 use Rattle.sheet.specs.Sheet.{inLimits}
-use Rattle.line.specs.Course.{Runs}
+use Rattle.line.specs.Inner.Course.{Runs}
 use Rattle.line.proofs.ListReplies.{rooms, list-coordinate, runs, list-room, list-done}
 use borrow.Author.Needs.{needs}
 use Rattle.line.proofs.listing.list_line.Statement.{statement}

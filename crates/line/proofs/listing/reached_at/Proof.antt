@@ -1,7 +1,7 @@
 -- `line::listing::reached_at` meets its contract.
 use native.Mathlib.Omega.{arith}
 use Prim.Native.Nat.{_≤_}
-use Rattle.line.specs.Fixed.{gone}
+use Rattle.line.specs.Inner.Fixed.{gone}
 use Rattle.line.proofs.Along.{gone-le}
 use borrow.Author.Needs.{needs}
 use Rattle.line.proofs.listing.reached_at.Statement.{statement}

@@ -39,7 +39,8 @@ use denote.Triple.Clauses.{ensured, lasts}
 use Rattle.line.specs.declared.pen.Pen.{Pen}
 use Rattle.line.specs.declared.pen.Step.{Step}
 use Rattle.line.specs.declared.pen.Asked.{Asked}
-use Rattle.line.specs.Pen.{toldStep, toldAsked, nextAnswer, askAnswer, left, askedOf, keptOf}
+use Rattle.line.specs.Pen.{toldStep, toldAsked, nextAnswer, askAnswer, left, keptOf}
+use Rattle.line.specs.Inner.Step.{askedOf}
 use Rattle.line.proofs.Pens.{asks}
 use Rattle.line.proofs.pen.Pen as T
 use Rattle.line.proofs.pen.Pen.Laws as T′

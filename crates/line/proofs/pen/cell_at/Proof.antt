@@ -2,7 +2,7 @@
 use Prim.Native.Nat.{_≤_}
 use mathlib.Core.Path.{ap, _∙_}
 use Rattle.sheet.specs.Inner.{loweredCell}
-use Rattle.line.specs.Course.{spotAt}
+use Rattle.line.specs.Inner.Course.{spotAt}
 use Rattle.line.proofs.Rise.{from-either}
 use borrow.Author.Needs.{needs}
 use Rattle.line.proofs.pen.cell_at.Statement.{statement}

@@ -1,12 +1,12 @@
--- Listing one coordinate of a line by a running sum. Inner contracts only: no public contract cites this module.
+-- Listing one coordinate of a line by a running sum.
 use Prim.Native.Nat.{ℕ, zero, suc, _+_, _-_, _*_, _/_, _≤_}
 use mathlib.Core.List.{List, [], _∷_}
 use mathlib.Core.Bool.{Bool, cond}
 use lib.IntN.{ℤ}
 use Rattle.sheet.specs.Inner.{Moved, unmoved, unmovedCell}
 use Rattle.sheet.specs.declared.Cell.{Cell}
-use Rattle.line.specs.Course.{stepped, spotAt}
-use Rattle.line.specs.Fixed.{gone}
+use Rattle.line.specs.Inner.Course.{stepped, spotAt}
+use Rattle.line.specs.Inner.Fixed.{gone}
 use Rattle.line.specs.declared.Course.{Course}
 
 -- the first n places hold g 0, .., g (n − 1), and the others what stood there

@@ -1,11 +1,11 @@
--- The part of a course that is on the sheet, as a range of n. Inner contracts only: no public contract cites this module.
+-- The part of a course that is on the sheet, as a range of n.
 use Prim.Native.Nat.{ℕ, _+_, _-_, _*_, _≤_, _<_}
 use mathlib.Core.Bool.{Bool, true, cond}
 use mathlib.Core.Logic.{_⊎_}
 use Rattle.sheet.specs.declared.Shape.{Shape}
 use Rattle.sheet.specs.declared.Spot.{Spot}
 use Rattle.line.specs.Rule.{rise}
-use Rattle.line.specs.Course.{alongX, alongY, spotAt}
+use Rattle.line.specs.Inner.Course.{alongX, alongY, spotAt}
 use Rattle.line.specs.declared.Course.{Course}
 
 -- steps from m, up or down, along an axis on which the sheet has `size` cells: the first that is not before the sheet; the first past it

@@ -1,4 +1,4 @@
--- The steps along the shorter extent in parts of 2^32. Inner contracts only: no public contract cites this module.
+-- The steps along the shorter extent in parts of 2^32.
 use Prim.Native.Nat.{ℕ, _+_, _*_, _/_}
 
 -- the shorter extent over the longer, rounded down

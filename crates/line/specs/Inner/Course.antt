@@ -1,4 +1,4 @@
--- A line on the moved plane, as the code walks it. Inner contracts only: no public contract cites this module.
+-- A line on the moved plane, as the code walks it.
 use Prim.Native.Nat.{ℕ, _+_, _-_, _≤_}
 use mathlib.Core.Bool.{Bool, cond, _&&_, _||_}
 use lib.Dec.{ltb, leb, eqb}
