@@ -1,4 +1,4 @@
--- The regulator's question is answered: one agreed boundary, drawn from either end and in any order, is the same bytes.
+-- One agreed boundary, drawn from either end and in any order, has the same answers and leaves the same bytes.
 use Prim.Native.Nat.{ℕ}
 use mathlib.Core.Path.{_≡_, refl, sym, subst, ap, _∙_}
 use mathlib.Core.List.{List, [], _∷_}
@@ -6,31 +6,37 @@ use mathlib.Core.Logic.{inl, inr}
 use mathlib.Core.Bool.{Bool, true, false, cond, _||_, and-comm}
 use lib.Dec.{T}
 use lib.IntN.{pos}
+use lib.Ieee.{Float}
 use lib.ListN.{length}
 use Rattle.laws.proofs.Tests.{or-l, or-r, or-e, same}
 use Rattle.sheet.specs.Sheet.{fits, inLimits, cellOf, paint, cellsOn}
 use Rattle.sheet.specs.Reply.{done, unless, settled}
 use Rattle.sheet.specs.declared.Cell.{Cell}
 use Rattle.sheet.specs.declared.Shape.{Shape}
-use Rattle.sheet.specs.declared.Counted.{Counted}
 use Rattle.sheet.specs.declared.Refusal.the-variants.{Size, Coordinate}
+use Rattle.sheet.specs.declared.Refusal.the-variants as refusal
 use Rattle.sheet.proofs.Paint.{paint-as, paint-none, paint-then}
-use Rattle.sheet.proofs.Unique.{counted-one}
 use Rattle.line.specs.Rule.{onLine}
 use Rattle.line.specs.Draw.{lineAnswer}
 use Rattle.line.proofs.OnLine.{onLine-either}
 use Rattle.curve.proofs.Reversed.{on-curve-either}
+use Rattle.survey.specs.Metres.{sound, cell, eastward, northward, lineOf, figureIn, inCells}
+use Rattle.survey.specs.declared.Found.{Found}
+use Rattle.survey.specs.declared.Found.the-variants.{At, NoCell}
+use Rattle.survey.specs.declared.Survey.{Survey}
+use Rattle.survey.specs.declared.Metres.the-variants as metres
+use Rattle.survey.specs.declared.InCells.{InCells}
+use Rattle.survey.specs.declared.InCells.the-variants as cells
 use Rattle.record.specs.Reading.{refuseAt}
 use Rattle.record.specs.File.{Contents, holds, contentsAnswer}
 use Rattle.record.specs.declared.types.Figure.{Figure}
 use Rattle.record.specs.declared.types.Record.{Record}
 use Rattle.drawing.specs.Figure.{onFigure}
-use Rattle.drawing.specs.File.{contents, recordsOf, paintAll, drawFileAnswer, toldFiled}
-use Rattle.drawing.specs.Boundary.{LineDrawn, FileDrawn, SameFigure, Named, AllNamed, SameBoundary, InTurn}
-use Rattle.drawing.specs.declared.Filed.{Filed}
-use Rattle.drawing.proofs.Unique.{filed-one}
+use Rattle.drawing.specs.File.{contents, recordsOf, paintAll, drawFileAnswer}
+use Rattle.drawing.specs.Metres.{cellsAnswer, metresAnswer, onCells, onMetres}
+use Rattle.drawing.specs.Boundary.{SameFigure, Named, AllNamed, SameBoundary, InTurn}
 
--- One line: the answer does not depend on which end is named first ..
+-- One line: its answer and the bytes it leaves do not depend on which end is named first.
 line-either : (a b : Cell) → onLine a b ≡ onLine b a
 line-either a b = λ i c. onLine-either a b c i
 
@@ -39,14 +45,49 @@ unfolding lineAnswer
 answer-either k n a b =
     λ i. unless (fits k n) Size (unless (and-comm (inLimits a) (inLimits b) i) Coordinate (done (pos (cellsOn k (line-either a b i)) ∷ [])))
 
--- .. so that two replies that meet the contract of `line::draw_line`, one from each end, are equal, and so are the bytes left.
-pub same-line : (k : Shape) (ink : ℕ) (a b : Cell) (lent : List ℕ) (r q : Counted) (s t : List ℕ)
-    → LineDrawn k ink a b lent r s → LineDrawn k ink b a lent q t → (r ≡ q) × (s ≡ t)
-same-line k ink a b lent r q s t h g =
-    let e = answer-either k (length lent) a b in (
-      counted-one r q (h .told ∙ e ∙ sym (g .told)),
-      h .leaves ∙ (λ i. settled (e i) (paint k ink (line-either a b i) lent) lent) ∙ sym (g .leaves),
-    )
+pub left-either : (k : Shape) (ink : ℕ) (a b : Cell) (lent : List ℕ)
+    → settled (lineAnswer k (length lent) a b) (paint k ink (onLine a b) lent) lent
+    ≡ settled (lineAnswer k (length lent) b a) (paint k ink (onLine b a) lent) lent
+left-either k ink a b lent = λ i. settled (answer-either k (length lent) a b i) (paint k ink (line-either a b i) lent) lent
+
+-- One line in metres: what is the same of a line in cells from either end is so of the cells that are found.
+module _ {A : Type 0} (f : InCells → A) (either : (a b : Cell) → f (cells.Line a b) ≡ f (cells.Line b a)) where
+  found-either : (p q r s : Found) → f (lineOf p q r s) ≡ f (lineOf r s p q)
+  found-either (At a) (At b) (At c) (At d) = either (cell a b) (cell c d)
+  found-either (At a) (At b) (At c) NoCell = refl
+  found-either (At a) (At b) NoCell s = refl
+  found-either (At a) NoCell (At c) (At d) = refl
+  found-either (At a) NoCell (At c) NoCell = refl
+  found-either (At a) NoCell NoCell s = refl
+  found-either NoCell q (At c) (At d) = refl
+  found-either NoCell q (At c) NoCell = refl
+  found-either NoCell q NoCell s = refl
+
+  cells-either : (s : Survey) (x0 y0 x1 y1 : Float) → f (inCells s (metres.Line x0 y0 x1 y1)) ≡ f (inCells s (metres.Line x1 y1 x0 y0))
+  unfolding inCells
+  cells-either s x0 y0 x1 y1 = by (sound s)
+    where
+      by : (t : Bool)
+          → f (cond t (figureIn s (metres.Line x0 y0 x1 y1)) (cells.Refused refusal.Survey))
+          ≡ f (cond t (figureIn s (metres.Line x1 y1 x0 y0)) (cells.Refused refusal.Survey))
+      by true = found-either (eastward s x0) (northward s y0) (eastward s x1) (northward s y1)
+      by false = refl
+
+module _ (k : Shape) (s : Survey) (x0 y0 x1 y1 : Float) where
+  pub metres-answer-either : (n : ℕ) → metresAnswer k n s (metres.Line x0 y0 x1 y1) ≡ metresAnswer k n s (metres.Line x1 y1 x0 y0)
+  unfolding metresAnswer
+  metres-answer-either n =
+      cells-either (λ (c : InCells). unless (fits k n) Size (cellsAnswer k c))
+      (λ a b i. unless (fits k n) Size (done (pos (cellsOn k (line-either a b i)) ∷ []))) s x0 y0 x1 y1
+
+  pub metres-left-either : (ink : ℕ) (lent : List ℕ)
+      → settled (metresAnswer k (length lent) s (metres.Line x0 y0 x1 y1)) (paint k ink (onMetres s (metres.Line x0 y0 x1 y1)) lent) lent
+      ≡ settled (metresAnswer k (length lent) s (metres.Line x1 y1 x0 y0)) (paint k ink (onMetres s (metres.Line x1 y1 x0 y0)) lent) lent
+  unfolding metresAnswer onMetres
+  metres-left-either ink lent =
+      cells-either (λ (c : InCells). settled (unless (fits k (length lent)) Size (cellsAnswer k c)) (paint k ink (onCells c) lent) lent)
+      (λ a b i. settled (unless (fits k (length lent)) Size (done (pos (cellsOn k (line-either a b i)) ∷ []))) (paint k ink (line-either a b i) lent) lent)
+      s x0 y0 x1 y1
 
 -- A figure named from its other end has the same cells.
 same-figure : (f g : Figure) (c : Cell) → SameFigure f g → onFigure f c ≡ onFigure g c
@@ -100,40 +141,33 @@ module _ (k : Shape) where
       ∙ same-in-turn rest more (paint k (q .ink) (onFigure (q .figure)) s) h
 
   -- what a file that none refuses is told and leaves
-  module _ (file lent : List ℕ) (rs : List Record) (e : contents file ≡ holds rs) (r : Filed) (s : List ℕ) (h : FileDrawn k file lent r s) where
-    told-by : toldFiled r ≡ cond (fits k (length lent)) (done (pos (length rs) ∷ [])) (refuseAt Size 0)
+  module _ (file lent : List ℕ) (rs : List Record) (e : contents file ≡ holds rs) where
+    told-by : drawFileAnswer k (length lent) file ≡ cond (fits k (length lent)) (done (pos (length rs) ∷ [])) (refuseAt Size 0)
     unfolding drawFileAnswer
-    told-by = h .told ∙ ap (λ (c : Contents). cond (fits k (length lent)) (contentsAnswer c) (refuseAt Size 0)) e
+    told-by = ap (λ (c : Contents). cond (fits k (length lent)) (contentsAnswer c) (refuseAt Size 0)) e
 
-    left-by : s ≡ cond (fits k (length lent)) (paintAll k rs lent) lent
+    left-by : settled (drawFileAnswer k (length lent) file) (paintAll k (recordsOf (contents file)) lent) lent
+        ≡ cond (fits k (length lent)) (paintAll k rs lent) lent
     unfolding drawFileAnswer
     left-by =
-        h .leaves
-        ∙ (λ i. settled (cond (fits k (length lent)) (contentsAnswer (e i)) (refuseAt Size 0)) (paintAll k (recordsOf (e i)) lent) lent)
+        (λ i. settled (cond (fits k (length lent)) (contentsAnswer (e i)) (refuseAt Size 0)) (paintAll k (recordsOf (e i)) lent) lent)
         ∙ by (fits k (length lent))
       where
         by : (t : Bool) → settled (cond t (contentsAnswer (holds rs)) (refuseAt Size 0)) (paintAll k rs lent) lent ≡ cond t (paintAll k rs lent) lent
         by true = refl
         by false = refl
 
-  -- Two replies that meet the contract of `drawing::draw_file`, one for each of two files, none of whose records is refused:
-  module _ (file other lent : List ℕ) (rs qs : List Record) (e : contents file ≡ holds rs) (f : contents other ≡ holds qs)
-      (r q : Filed) (s t : List ℕ) (h : FileDrawn k file lent r s) (g : FileDrawn k other lent q t) where
-    as-painted : paintAll k rs lent ≡ paintAll k qs lent → s ≡ t
-    as-painted p = left-by file lent rs e r s h ∙ ap (λ (d : List ℕ). cond (fits k (length lent)) d lent) p ∙ sym (left-by other lent qs f q t g)
+  -- Two files, none of whose records is refused, on sheets that were alike:
+  module _ (file other lent : List ℕ) (rs qs : List Record) (e : contents file ≡ holds rs) (f : contents other ≡ holds qs) where
+    -- where painting their records comes to the same, the bytes left are the same,
+    pub files-left : paintAll k rs lent ≡ paintAll k qs lent
+        → settled (drawFileAnswer k (length lent) file) (paintAll k (recordsOf (contents file)) lent) lent
+        ≡ settled (drawFileAnswer k (length lent) other) (paintAll k (recordsOf (contents other)) lent) lent
+    files-left p = left-by file lent rs e ∙ ap (λ (d : List ℕ). cond (fits k (length lent)) d lent) p ∙ sym (left-by other lent qs f)
 
-    -- where the files name one boundary in one ink, in any order, the bytes left are the same ..
-    pub same-file : (ink : ℕ) → SameBoundary ink rs qs → s ≡ t
-    same-file ink b = as-painted (same-boundary ink rs qs lent b)
-
-    -- .. and so they are where the files name it in the same order, in any inks;
-    pub same-file-in-turn : InTurn rs qs → s ≡ t
-    same-file-in-turn b = as-painted (same-in-turn rs qs lent b)
-
-    -- and with as many records the replies are equal too.
-    pub same-reply : length rs ≡ length qs → r ≡ q
-    same-reply l =
-        filed-one r q
-        (told-by file lent rs e r s h
+    -- and with as many records the answers are equal.
+    pub files-told : length rs ≡ length qs → drawFileAnswer k (length lent) file ≡ drawFileAnswer k (length lent) other
+    files-told l =
+        told-by file lent rs e
         ∙ ap (λ (n : ℕ). cond (fits k (length lent)) (done (pos n ∷ [])) (refuseAt Size 0)) l
-        ∙ sym (told-by other lent qs f q t g))
+        ∙ sym (told-by other lent qs f)

@@ -2,30 +2,10 @@
 use Prim.Native.Nat.{ℕ}
 use mathlib.Core.Path.{_≡_}
 use mathlib.Core.List.{List, [], _∷_}
-use lib.ListN.{length}
-use Rattle.sheet.specs.Sheet.{paint}
-use Rattle.sheet.specs.Reply.{settled}
-use Rattle.sheet.specs.Counted.{toldCounted}
 use Rattle.sheet.specs.declared.Cell.{Cell}
-use Rattle.sheet.specs.declared.Shape.{Shape}
-use Rattle.sheet.specs.declared.Counted.{Counted}
-use Rattle.line.specs.Rule.{onLine}
-use Rattle.line.specs.Draw.{lineAnswer}
 use Rattle.record.specs.declared.types.Figure.{Figure}
 use Rattle.record.specs.declared.types.Figure.the-variants.{Line, Curve}
 use Rattle.record.specs.declared.types.Record.{Record}
-use Rattle.drawing.specs.File.{contents, recordsOf, paintAll, drawFileAnswer, toldFiled}
-use Rattle.drawing.specs.declared.Filed.{Filed}
-
--- what `line::draw_line` promises of its reply and of the bytes that it leaves of those lent: its two `ensures`, which the proof of `pw_line` takes as this
-pub record LineDrawn (k : Shape) (ink : ℕ) (a b : Cell) (lent : List ℕ) (reply : Counted) (bytes : List ℕ) : Type 0 where
-  pub told : toldCounted reply ≡ lineAnswer k (length lent) a b
-  pub leaves : bytes ≡ settled (lineAnswer k (length lent) a b) (paint k ink (onLine a b) lent) lent
-
--- what `drawing::draw_file` promises: its two `ensures`, which the proof of `pw_file` takes as this
-pub record FileDrawn (k : Shape) (file lent : List ℕ) (reply : Filed) (bytes : List ℕ) : Type 0 where
-  pub told : toldFiled reply ≡ drawFileAnswer k (length lent) file
-  pub leaves : bytes ≡ settled (drawFileAnswer k (length lent) file) (paintAll k (recordsOf (contents file)) lent) lent
 
 -- one figure, named by two: alike, or from its other end
 pub data SameFigure : (f g : Figure) → Type 0 where

@@ -1,2 +1,3 @@
+pub mod Boundary
 mod Told
 pub mod Unique

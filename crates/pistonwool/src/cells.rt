@@ -4,14 +4,13 @@ ghost use mathlib.Core.List.{[], _∷_};
 ghost use lib.ListN.{length};
 ghost use Rattle.sheet.specs.Sheet.{paint};
 ghost use Rattle.sheet.specs.Reply.{settled};
-ghost use Rattle.line.specs.Rule.{onLine};
-ghost use Rattle.line.specs.Draw.{lineAnswer};
 ghost use Rattle.line.specs.Listing.{listAnswer, listedOver};
 ghost use Rattle.ring.specs.Ring.{onCircle, onEllipse};
 ghost use Rattle.ring.specs.Answer.{circleAnswer, ellipseAnswer};
 ghost use Rattle.curve.specs.Rule.{onCurve};
 ghost use Rattle.curve.specs.Draw.{curveAnswer};
 ghost use Rattle.survey.specs.Metres.{cell};
+ghost use Rattle.pistonwool.specs.Boundary.{LineDrawn};
 ghost use Rattle.pistonwool.specs.Told.{firstValue, shapeOf};
 use crate::number_of_counted;
 use crate::number_of_drawn;
@@ -31,9 +30,7 @@ pub extern "C" fn pw_line(
     y1: i32,
     cells: &mut u32,
 ) -> u32
-    ensures { λ d. ⌜ d ≡ lineAnswer (shapeOf width height) (length (now (sheet .entry))) (cell x0 y0) (cell x1 y1) .number ⌝ }
-    ensures { λ d. ⌜ now (cells .exit) ≡ firstValue (lineAnswer (shapeOf width height) (length (now (sheet .entry))) (cell x0 y0) (cell x1 y1)) (now (cells .entry)) ⌝ }
-    ensures { λ d. ⌜ now (sheet .exit) ≡ settled (lineAnswer (shapeOf width height) (length (now (sheet .entry))) (cell x0 y0) (cell x1 y1)) (paint (shapeOf width height) ink (onLine (cell x0 y0) (cell x1 y1)) (now (sheet .entry))) (now (sheet .entry)) ⌝ }
+    ensures { λ d. ⌜ LineDrawn width height ink x0 y0 x1 y1 (now (sheet .entry)) (now (cells .entry)) d (now (cells .exit)) (now (sheet .exit)) ⌝ }
 {
     let shape = Shape { width, height };
     let from = Cell { x: x0, y: y0 };

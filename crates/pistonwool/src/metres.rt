@@ -5,7 +5,8 @@ ghost use Rattle.sheet.specs.Sheet.{paint};
 ghost use Rattle.sheet.specs.Reply.{settled};
 ghost use Rattle.survey.specs.declared.Metres.the-variants as metres;
 ghost use Rattle.drawing.specs.Metres.{metresAnswer, onMetres};
-ghost use Rattle.pistonwool.specs.Told.{firstValue, shapeOf, surveyOf};
+ghost use Rattle.pistonwool.specs.Boundary.{MetresDrawn};
+ghost use Rattle.pistonwool.specs.Told.{shapeOf, surveyOf};
 use crate::cells_of_shown;
 use crate::number_of_shown;
 use sheet::Shape;
@@ -28,9 +29,8 @@ pub extern "C" fn pw_line_metres(
     y1: f64,
     cells: &mut u32,
 ) -> u32
-    ensures { λ d. ⌜ d ≡ metresAnswer (shapeOf width height) (length (now (sheet .entry))) (surveyOf east north size) (metres.Line x0 y0 x1 y1) .number ⌝ }
-    ensures { λ d. ⌜ now (cells .exit) ≡ firstValue (metresAnswer (shapeOf width height) (length (now (sheet .entry))) (surveyOf east north size) (metres.Line x0 y0 x1 y1)) (now (cells .entry)) ⌝ }
-    ensures { λ d. ⌜ now (sheet .exit) ≡ settled (metresAnswer (shapeOf width height) (length (now (sheet .entry))) (surveyOf east north size) (metres.Line x0 y0 x1 y1)) (paint (shapeOf width height) ink (onMetres (surveyOf east north size) (metres.Line x0 y0 x1 y1)) (now (sheet .entry))) (now (sheet .entry)) ⌝ }
+    ensures { λ d. ⌜ MetresDrawn width height ink (surveyOf east north size) x0 y0 x1 y1
+        (now (sheet .entry)) (now (cells .entry)) d (now (cells .exit)) (now (sheet .exit)) ⌝ }
 {
     let shape = Shape { width, height };
     let survey = Survey { east, north, size };

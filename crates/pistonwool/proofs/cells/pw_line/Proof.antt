@@ -9,7 +9,6 @@ use Rattle.sheet.specs.Sheet.{paint}
 use Rattle.sheet.specs.declared.Cell.{Cell}
 use Rattle.line.specs.Rule.{onLine}
 use Rattle.line.specs.Draw.{lineAnswer}
-use Rattle.drawing.specs.Boundary.{LineDrawn}
 use Rattle.pistonwool.specs.Told.{shapeOf}
 use Rattle.pistonwool.proofs.Told.{cell-back, both, left, number-told, value-told}
 use borrow.Author.Needs.{needs}
@@ -36,11 +35,14 @@ returns c =
     let e = both (cell-back (a .x0) (a .y0) (f .x0) (f .y0)) (cell-back (a .x1) (a .y1) (f .x1) (f .y1)) in
     let answer : Cell × Cell → Answer = λ l. lineAnswer k n (l .0) (l .1) in
     let drawn : Cell × Cell → List ℕ = λ l. paint k (a .ink) (onLine (l .0) (l .1)) (now (a .sheet)) in
-    -- the theorems on one boundary speak of this promise
-    let promise : LineDrawn k (a .ink) _ _ (now (a .sheet)) (called .draw-line .result) _ = record { told = called .draw-line .ensures .0; leaves = called .draw-line .ensures .1 } in
+    let promise = called .draw-line .ensures in
     let said = c .number-of-counted .ensures in
-    let t = promise .told ∙ ap answer e in
-    (number-told _ _ t _ (said .0), (value-told _ _ t _ _ (said .1), left answer drawn _ _ e _ _ (promise .leaves)))
+    let t = promise .0 ∙ ap answer e in
+    record {
+      told = number-told _ _ t _ (said .0);
+      counted = value-told _ _ t _ _ (said .1);
+      leaves = left answer drawn _ _ e _ _ (promise .1);
+    }
 
 pub pw-line-spec : {M : Type 1} → statement M
 pw-line-spec =

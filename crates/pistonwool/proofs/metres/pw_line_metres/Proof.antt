@@ -20,7 +20,7 @@ returns : tie.Need-returns
 returns c =
     let told = c .before .before .before .before .before .draw-metres .ensures in
     let cells = c .before .cells-of-shown .ensures in
-    (number-told _ _ (told .0) _ (c .number-of-shown .ensures), (value-told _ _ (told .0) _ _ cells, told .1))
+    record { told = number-told _ _ (told .0) _ (c .number-of-shown .ensures); counted = value-told _ _ (told .0) _ _ cells; leaves = told .1 }
 
 pub pw-line-metres-spec : {M : Type 1} → statement M
 pw-line-metres-spec =
