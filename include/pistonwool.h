@@ -68,7 +68,20 @@ uint32_t pw_list(int32_t *xs, size_t nx, int32_t *ys, size_t ny,
 uint32_t pw_file(uint8_t *sheet, size_t len, uint32_t width, uint32_t height,
                  const uint8_t *file, size_t n, uint64_t *value);
 
-/* The same figures in metres, by a survey: the origins east and north, and the size of a cell. */
+/* The same figures in metres, by a survey: the origins east and north, and the size of a cell.
+ *
+ * Their cells are those of a thread that rounds doubles to nearest and keeps denormals, as every program starts; in
+ * another mode a position may be found in the next cell. The library does not change the mode. */
+
+/* Whether the calling thread computes doubles so: 1, or 0. For a controller to call once at its start, and again after
+ * code that may have changed the mode. (Volatile: the sums are made when the program runs, whatever the compiler may assume.) */
+static inline int pw_floats_sound(void) {
+    /* a quarter of the step above 1.0, and the least double above 0.0, with and without all its digits */
+    volatile double one = 1.0, quarter = 5.5511151231257827e-17;
+    volatile double least = 4.9406564584124654e-324, normal = 2.2250738585072014e-308;
+    volatile double below = one + quarter, above = one + 3.0 * quarter, halved = normal / 2.0;
+    return below == one && above > one && least > 0.0 && halved > 0.0;
+}
 
 /* Draws the line from (x0, y0) to (x1, y1). *cells is then its number of cells on the sheet. */
 uint32_t pw_line_metres(uint8_t *sheet, size_t len, uint32_t width, uint32_t height, uint8_t ink,

@@ -1,0 +1,84 @@
+/* examples.c: the checked examples of document 01 that are not starred, each by its words through the library; the last line counts. */
+#include <stdio.h>
+#include <string.h>
+
+#include "pistonwool.h"
+
+enum { WIDTH = 16, HEIGHT = 8 };
+static uint8_t sheet[WIDTH * HEIGHT];
+static int passed, failed;
+
+static void same(const char *example, long long found, long long expected) {
+    if (found == expected) {
+        passed++;
+    } else {
+        failed++;
+        printf("tests/examples: %s: %lld and not %lld\n", example, found, expected);
+    }
+}
+
+/* a sheet of zeros */
+static void clear(void) { memset(sheet, 0, sizeof sheet); }
+
+/* how many cells are set, and whether (x, y) is one of them */
+static int set(void) {
+    int n = 0;
+    for (size_t i = 0; i < sizeof sheet; i++)
+        n += sheet[i] != 0;
+    return n;
+}
+
+static int at(int x, int y) { return sheet[y * WIDTH + x]; }
+
+/* the cell of a position, as the ring of radius one cell about it shows, whose rightmost cell is one further: so -1 is seen too */
+static int column(double east, double size, double x) {
+    clear();
+    if (pw_circle_metres(sheet, sizeof sheet, WIDTH, HEIGHT, 1, east, 0.0, size, x, 2.0 * size, size) != PW_DONE)
+        return -100;
+    for (int c = WIDTH - 1; c >= 0; c--)
+        if (at(c, 2))
+            return c - 1;
+    return -100;
+}
+
+/* a file of so many bytes: its reply; what it tells goes to value */
+static uint64_t value;
+static uint32_t file(const char *bytes, size_t n) {
+    clear();
+    value = 99;
+    return pw_file(sheet, sizeof sheet, WIDTH, HEIGHT, (const uint8_t *)bytes, n, &value);
+}
+
+int main(void) {
+    uint32_t cells;
+
+    /* the points are (0,0), the middle and (0,4): were the middle -1, its cell would lie off the sheet */
+    clear();
+    same("a curve with x of 0, -1, 0 and s = 1 is drawn",
+         pw_curve(sheet, sizeof sheet, WIDTH, HEIGHT, 1, 0, 0, -1, 2, 0, 4, 1), PW_DONE);
+    same("x of 0, -1, 0: -0.5 becomes 0", set() == 5 && at(0, 0) && at(0, 1) && at(0, 2) && at(0, 3) && at(0, 4), 1);
+
+    same("origin 1000.0, size 25.0: 1062.5 is cell 2", column(1000.0, 25.0, 1062.5), 2);
+    same("origin 1000.0, size 25.0: 1000.0 is cell 0", column(1000.0, 25.0, 1000.0), 0);
+    same("origin 1000.0, size 25.0: 999.0 is cell -1", column(1000.0, 25.0, 999.0), -1);
+    same("position -0.0, origin 0.0: cell 0", column(0.0, 1.0, -0.0), 0);
+
+    cells = 0;
+    same("coordinate 16,383 is drawn", pw_line(sheet, sizeof sheet, WIDTH, HEIGHT, 1, 0, 0, 16383, 0, &cells), PW_DONE);
+    same("the line to 16,383 has the sheet's first row", cells, WIDTH);
+    same("coordinate 16,384 is refused with 2",
+         pw_line(sheet, sizeof sheet, WIDTH, HEIGHT, 1, 0, 0, 16384, 0, &cells), PW_COORDINATE);
+    same("s = 6 is drawn", pw_curve(sheet, sizeof sheet, WIDTH, HEIGHT, 1, 0, 0, 2, 4, 4, 0, 6), PW_DONE);
+    same("s = 7 is refused with 4", pw_curve(sheet, sizeof sheet, WIDTH, HEIGHT, 1, 0, 0, 2, 4, 4, 0, 7), PW_PIECES);
+    same("size 0.0 is refused with 6",
+         pw_line_metres(sheet, sizeof sheet, WIDTH, HEIGHT, 1, 0.0, 0.0, 0.0, 0.0, 0.0, 0.0, 0.0, &cells), PW_SURVEY);
+
+    same("length 1 with one byte after it: 10", file("\x01\x00\x01", 3), PW_LENGTH);
+    same("length 1 with nothing after it: 8", file("\x01\x00", 2), PW_SHORT);
+    same("kind 9 with length 11 and its 11 bytes: 9", file("\x0b\x00\x09\x00\x01\x00\x00\x00\x00\x02\x00\x01\x00", 13), PW_KIND);
+    same("a lone byte: 8", file("\x0b", 1), PW_SHORT);
+    same("a lone byte: at offset 0", (long long)value, 0);
+
+    printf("%d passed, %d failed\n", passed, failed);
+    return failed != 0;
+}
