@@ -1,2 +1,3 @@
+mod Pens
 mod Told
 pub mod Unique
