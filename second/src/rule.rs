@@ -62,6 +62,8 @@ pub struct Rules {
     pub floor: fn(i64, i64) -> i64,
     /// The cell of a float.
     pub cell: fn(f64) -> Option<i64>,
+    /// The cells that a pen of these ends with so many told has left, each with how many are told after it.
+    pub asked: fn(&Rules, Cell, Cell, u64) -> Vec<(Cell, u64)>,
     /// The number 2, 3 or 4 that refuses a figure.
     pub refusal: fn(&Rules, &Figure) -> Option<u32>,
     /// Whether a file is read to its end before the first cell is written.
@@ -80,6 +82,7 @@ impl Rules {
             on_ellipse,
             floor: i64::div_euclid,
             cell: crate::metres::cell,
+            asked,
             refusal,
             reads_first: true,
             tells_offset: true,
@@ -179,6 +182,14 @@ pub fn refusal(rules: &Rules, figure: &Figure) -> Option<u32> {
         Figure::Curve(_, s) if s > 6 => Some(4),
         _ => None,
     }
+}
+
+/// None is left after the last cell, nor of ends that no pen is begun from.
+pub fn asked(rules: &Rules, from: Cell, to: Cell, told: u64) -> Vec<(Cell, u64)> {
+    if (rules.refusal)(rules, &Figure::Line(from, to)).is_some() {
+        return Vec::new();
+    }
+    (rules.line)(from, to).into_iter().zip(1..).skip(told as usize).collect()
 }
 
 pub fn within(coordinate: i64) -> bool {
