@@ -1,3 +1,3 @@
-mod Pens
+pub mod Pens
 mod Told
 pub mod Unique

@@ -1,14 +1,15 @@
 -- The lent pen, by what its callees told: a beginning and an asking.
-use Prim.Native.Nat.{ℕ}
+use Prim.Native.Nat.{ℕ, _+_}
 use mathlib.Core.Path.{_≡_, refl, ap, _∙_}
 use mathlib.Core.List.{[]}
 use mathlib.Core.Bool.{Bool, true, false, cond, _&&_}
+use native.Mathlib.Omega.{arith}
 use lib.IntN.{ℤ}
 use Rattle.sheet.specs.Sheet.{inLimits}
 use Rattle.sheet.specs.Reply.{Answer, done, unless, settled}
 use Rattle.sheet.specs.declared.Cell.{Cell}
 use Rattle.sheet.specs.declared.Refusal.the-variants.{Coordinate}
-use Rattle.line.specs.Pen.{cellValues, penValues, fresh, toldBegun, beginAnswer, hasCell, nextCell, left, toldAsked, askAnswer}
+use Rattle.line.specs.Pen.{cellValues, penValues, fresh, toldBegun, beginAnswer, hasCell, nextCell, movedOn, left, toldAsked, askAnswer}
 use Rattle.line.specs.declared.pen.Pen.{Pen}
 use Rattle.line.specs.declared.pen.Begun.{Begun}
 use Rattle.line.specs.declared.pen.Begun.the-variants as begun
@@ -84,3 +85,11 @@ asks p q a n x y x′ y′ e f =
     down : (t : Bool) → askedCell (cond t (asked.Cell (nextCell p)) asked.Finished) (cell x y) .y ≡ cond t (nextCell p .y) y
     down true = refl
     down false = refl
+
+-- A pen that marks time breaks the statement of `pw_pen_next`: one with a cell left is not left as it was.
+pub pen-moves : (p : Pen) → hasCell p ≡ true → p ≡ left p → ⊥
+unfolding left
+pen-moves p e f =
+    let g : p ≡ movedOn p = f ∙ ap (λ (t : Bool). cond t (movedOn p) p) e in
+    let z : p .told ≡ p .told + 1 = ap (λ (q : Pen). q .told) g in
+    omega arith
