@@ -59,6 +59,14 @@ impl Job {
         }
     }
 
+    /// The sheet that is lent.
+    pub fn size(&self) -> Option<Size> {
+        match self {
+            Job::Cells(size, ..) | Job::Metres(size, ..) | Job::File(size, _) => Some(*size),
+            Job::List(..) | Job::Begin(_) | Job::Next(_) => None,
+        }
+    }
+
     /// The ends that a pen is begun from.
     pub fn begins(&self) -> Option<[i32; 4]> {
         match self {
@@ -123,6 +131,16 @@ fn numbers<T: FromStr + Default + Copy, const N: usize>(words: &mut SplitWhitesp
     Ok(found)
 }
 
+/// A job that is lent no sheet.
+fn without_sheet(name: &str, words: &mut SplitWhitespace) -> Result<Option<Job>, String> {
+    Ok(Some(match name {
+        "list" => Job::List(numbers(words)?, numbers(words)?),
+        "pen_begin" => Job::Begin(numbers(words)?),
+        "pen_next" => Job::Next(Pen { ends: numbers(words)?, told: number(words)? }),
+        _ => return Ok(None),
+    }))
+}
+
 impl FromStr for Case {
     type Err = String;
 
@@ -131,14 +149,8 @@ impl FromStr for Case {
         let words = &mut words;
         let name = words.next().ok_or("an empty case")?;
         let fill = number(words)?;
-        match name {
-            "list" => return Ok(Case { fill, job: Job::List(numbers(words)?, numbers(words)?) }),
-            "pen_begin" => return Ok(Case { fill, job: Job::Begin(numbers(words)?) }),
-            "pen_next" => {
-                let pen = Pen { ends: numbers(words)?, told: number(words)? };
-                return Ok(Case { fill, job: Job::Next(pen) });
-            }
-            _ => {}
+        if let Some(job) = without_sheet(name, words)? {
+            return Ok(Case { fill, job });
         }
         let size = Size { len: number(words)?, width: number(words)?, height: number(words)? };
         if name == "file" {

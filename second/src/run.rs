@@ -1,5 +1,5 @@
 //! One case, drawn by the library between guard pages and by the second program, and compared.
-use crate::case::{places, Case, Job, Size, MOST_BYTES, MOST_PLACES};
+use crate::case::{places, Case, Job, MOST_BYTES, MOST_PLACES};
 use crate::guard::{Against, Guarded};
 use crate::native::{self, Cells, Lent};
 use crate::pen::{self, Call};
@@ -64,26 +64,23 @@ impl Room {
         let (xs, ys) = (xs.lend::<i32>(before.lists[0].len(), against), ys.lend::<i32>(before.lists[1].len(), against));
         xs.copy_from_slice(&before.lists[0]);
         ys.copy_from_slice(&before.lists[1]);
-        let sides = |size: &Size| (size.width, size.height);
+        let (width, height) = job.size().map_or((0, 0), |size| (size.width, size.height));
         let mut short = |call: &mut dyn FnMut(&mut u32) -> u32| {
             let value = &mut self.value.lend::<u32>(1, against)[0];
             *value = before.value as u32;
             (call(value), u64::from(*value))
         };
         let (number, value) = match job {
-            Job::Cells(size, ink, figure) => {
-                let (width, height) = sides(size);
+            Job::Cells(_, ink, figure) => {
                 short(&mut |value| native::draw(Lent { bytes: sheet, width, height }, *ink, *figure, value))
             }
-            Job::Metres(size, ink, survey, figure) => {
-                let (width, height) = sides(size);
+            Job::Metres(_, ink, survey, figure) => {
                 let draw = native::draw_metres;
                 short(&mut |value| draw(Lent { bytes: sheet, width, height }, *ink, *survey, *figure, value))
             }
             Job::List(_, ends) | Job::Begin(ends) => short(&mut |value| native::list(xs, ys, *ends, value)),
             Job::Next(_) => return Ok(()),
-            Job::File(size, bytes) => {
-                let (width, height) = sides(size);
+            Job::File(_, bytes) => {
                 let file = self.file.lend::<u8>(bytes.len(), against);
                 file.copy_from_slice(bytes);
                 let value = &mut self.value.lend::<u64>(1, against)[0];
@@ -139,7 +136,7 @@ impl Outcome {
     fn by_rules(&mut self, rules: &Rules, job: &Job) {
         self.calls = self.calls.first().map_or(Vec::new(), |lent| lent.by_rules(rules, job.begins()));
         let mut sheet = Sheet { width: 0, height: 0, bytes: &mut self.sheet };
-        if let Job::Cells(size, ..) | Job::Metres(size, ..) | Job::File(size, _) = job {
+        if let Some(size) = job.size() {
             (sheet.width, sheet.height) = (size.width.into(), size.height.into());
         }
         let Reply { number, value } = match job {

@@ -1,5 +1,5 @@
 //! Second programs that are wrong on purpose: a comparison that is worth anything catches each.
-use crate::rule::{asked, cells_from, line_cells, place, refusal, Cell, Figure, Rules};
+use crate::rule::{asked, cells_from, line_cells, place, refusal, Cell, Figure, Rules, Told};
 
 /// Each with what is wrong in it.
 pub fn wrong_programs() -> Vec<(&'static str, Rules)> {
@@ -41,12 +41,12 @@ fn cut(_: &Rules, width: i64, height: i64, from: Cell, to: Cell) -> Vec<Cell> {
     }
 }
 
-fn marks_time(rules: &Rules, from: Cell, to: Cell, told: u64) -> Vec<(Cell, u64)> {
+fn marks_time(rules: &Rules, from: Cell, to: Cell, told: u64) -> Vec<Told> {
     let cells = asked(rules, from, to, told);
     cells.iter().map(|_| cells[0]).collect()
 }
 
-fn once_more(rules: &Rules, from: Cell, to: Cell, told: u64) -> Vec<(Cell, u64)> {
+fn once_more(rules: &Rules, from: Cell, to: Cell, told: u64) -> Vec<Told> {
     let mut cells = asked(rules, from, to, told);
     cells.extend(cells.last().copied());
     cells
