@@ -1,4 +1,5 @@
-/* boundary.c: one boundary drawn from each of its ends, as two controllers draw it, and listed; prints the sheet and whether the two agree. */
+/* boundary.c: one boundary drawn from each of its ends, as two controllers draw it, listed, and followed by a pen; prints the
+ * sheet and whether the two agree. */
 #include <stdio.h>
 #include <string.h>
 
@@ -10,6 +11,8 @@ int main(void) {
     uint8_t harbour[WIDTH * HEIGHT] = {0}, hill[WIDTH * HEIGHT] = {0};
     int32_t xs[32], ys[32];
     uint32_t cells = 0;
+    struct pw_pen pen;
+    int32_t x, y;
 
     if (pw_line(harbour, sizeof harbour, WIDTH, HEIGHT, 1, 0, 7, 15, 0, &cells) != PW_DONE)
         return 1;
@@ -25,6 +28,14 @@ int main(void) {
     }
     printf("%u cells, from (%d,%d) to (%d,%d)\n", cells, xs[0], ys[0], xs[cells - 1], ys[cells - 1]);
     printf("the two sheets %s\n", memcmp(harbour, hill, sizeof hill) ? "differ" : "are the same");
+
+    /* an operator's screen follows the boundary cell by cell */
+    if (pw_pen_begin(&pen, 0, 7, 15, 0) != PW_DONE)
+        return 1;
+    printf("a pen follows it:");
+    while (pw_pen_next(&pen, &x, &y))
+        printf(" (%d,%d)", x, y);
+    putchar('\n');
 
     /* nothing is tested before a call: what cannot be drawn is refused by number, and nothing is written */
     printf("an end at 16,384 is refused with %u\n", pw_line(hill, sizeof hill, WIDTH, HEIGHT, 1, 0, 0, 16384, 0, &cells));

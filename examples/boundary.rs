@@ -1,4 +1,4 @@
-//! One boundary drawn from each of its ends, as two controllers draw it, by the proved library.
+//! One boundary drawn from each of its ends, as two controllers draw it, and followed by a pen, by the proved library.
 
 extern "C" {
     #[allow(clippy::too_many_arguments)]
@@ -14,7 +14,14 @@ extern "C" {
         y1: i32,
         cells: *mut u32,
     ) -> u32;
+    fn pw_pen_begin(pen: *mut Pen, x0: i32, y0: i32, x1: i32, y1: i32) -> u32;
+    fn pw_pen_next(pen: *mut Pen, x: *mut i32, y: *mut i32) -> u32;
 }
+
+/// `struct pw_pen`: x and y of both ends, and how many cells were told.
+#[derive(Default)]
+#[repr(C)]
+struct Pen([i32; 4], u32);
 
 const WIDTH: u32 = 16;
 const HEIGHT: u32 = 8;
@@ -44,6 +51,28 @@ fn line(sheet: &mut [u8], from: (i32, i32), to: (i32, i32)) -> Result<u32, u32> 
     }
 }
 
+impl Pen {
+    fn begin(from: (i32, i32), to: (i32, i32)) -> Result<Pen, u32> {
+        let mut pen = Pen::default();
+        // SAFETY: a pen of the library's own layout.
+        match unsafe { pw_pen_begin(&mut pen, from.0, from.1, to.0, to.1) } {
+            0 => Ok(pen),
+            refusal => Err(refusal),
+        }
+    }
+}
+
+impl Iterator for Pen {
+    type Item = (i32, i32);
+
+    fn next(&mut self) -> Option<(i32, i32)> {
+        let (mut x, mut y) = (0, 0);
+        // SAFETY: as in `begin`; x and y are places of their own.
+        let told = unsafe { pw_pen_next(self, &mut x, &mut y) };
+        (told == 1).then_some((x, y))
+    }
+}
+
 fn main() {
     let (mut harbour, mut hill) = ([0u8; 128], [0u8; 128]);
     let cells = line(&mut harbour, (0, 7), (15, 0)).expect("drawn");
@@ -64,6 +93,11 @@ fn main() {
             "differ"
         }
     );
+    print!("a pen follows it:");
+    for (x, y) in Pen::begin((0, 7), (15, 0)).expect("begun") {
+        print!(" ({x},{y})");
+    }
+    println!();
     println!(
         "an end at 16,384 is refused with {}",
         line(&mut hill, (0, 0), (16384, 0)).unwrap_err()

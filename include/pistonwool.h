@@ -3,8 +3,8 @@
  * A sheet is width x height bytes, row after row: cell (x, y) is byte y * width + x.
  * Limits: width and height 1 to 4,096; coordinates -16,384 to 16,383; radius 0 to 16,383; semi-axes 1 to 16,383; s 0 to 6.
  * Drawing sets each of a figure's cells that lies on the sheet to the ink and leaves every other byte as it was.
- * Every function answers a number of enum pw_reply. Any number other than PW_DONE is a refusal; a refusal leaves every
- * byte and every number that was lent as it was, but for the offset that pw_file tells.
+ * Every function but pw_pen_next answers a number of enum pw_reply. Any number other than PW_DONE is a refusal; a
+ * refusal leaves every byte and every number that was lent as it was, but for the offset that pw_file tells.
  *
  * Pointers must not be null, must point to as many elements as the length after them says, and must not overlap. */
 #ifndef PISTONWOOL_H
@@ -62,6 +62,21 @@ uint32_t pw_curve(uint8_t *sheet, size_t len, uint32_t width, uint32_t height, u
  * they are; places after the last keep what they held. */
 uint32_t pw_list(int32_t *xs, size_t nx, int32_t *ys, size_t ny,
                  int32_t x0, int32_t y0, int32_t x1, int32_t y1, uint32_t *cells);
+
+/* A pen on the line from (x0, y0) to (x1, y1), and how many of its cells the pen has told. These numbers are the whole
+ * pen: it may be copied and kept, and each copy goes on by itself. */
+struct pw_pen {
+    int32_t x0, y0, x1, y1;
+    uint32_t told;
+};
+
+/* Begins a pen: *pen is then on the line from (x0, y0) to (x1, y1) and has told none of its cells. */
+uint32_t pw_pen_begin(struct pw_pen *pen, int32_t x0, int32_t y0, int32_t x1, int32_t y1);
+
+/* Asks a pen for the next cell, in the order of pw_list: while (pw_pen_next(&pen, &x, &y)) ...
+ * Answers 1 with the cell in *x and *y and *pen one cell further; or 0 for finished, with *pen, *x and *y as they were.
+ * A pen in a state that no beginning and asking leads to answers 0 too. */
+uint32_t pw_pen_next(struct pw_pen *pen, int32_t *x, int32_t *y);
 
 /* Draws a record file of n bytes. *value is then its number of records, or the offset of what was refused (0 for a sheet
  * that was). A file that is refused draws nothing. */

@@ -1,6 +1,6 @@
 //! One input of the library: written as one line, and read back from it.
 use crate::metres::{Metres, Survey};
-use crate::native::Cells;
+use crate::native::{Cells, Pen};
 use std::fmt;
 use std::str::{FromStr, SplitWhitespace};
 
@@ -17,6 +17,10 @@ pub enum Job {
     Cells(Size, u8, Cells),
     Metres(Size, u8, Survey, Metres),
     List([usize; 2], [i32; 4]),
+    /// The line between these ends is listed, and a pen begun from them is asked.
+    Begin([i32; 4]),
+    /// A pen in any state is asked.
+    Next(Pen),
     File(Size, Vec<u8>),
 }
 
@@ -32,6 +36,11 @@ pub const MOST_BYTES: usize = 4096 * 4096 + 4096;
 /// The most places that a random case lends in a list.
 pub const MOST_PLACES: usize = 40_000;
 
+/// As many places as a line has cells; fewer where no line is that long.
+pub fn places([x0, y0, x1, y1]: [i32; 4]) -> usize {
+    1 + x0.abs_diff(x1).max(y0.abs_diff(y1)).min(36_000) as usize
+}
+
 impl Job {
     /// The export's name after its pw_.
     pub fn name(&self) -> &'static str {
@@ -44,7 +53,25 @@ impl Job {
             Job::Metres(_, _, _, Metres::Circle(_)) => "circle_metres",
             Job::Metres(_, _, _, Metres::Ellipse(_)) => "ellipse_metres",
             Job::List(..) => "list",
+            Job::Begin(_) => "pen_begin",
+            Job::Next(_) => "pen_next",
             Job::File(..) => "file",
+        }
+    }
+
+    /// The sheet that is lent.
+    pub fn size(&self) -> Option<Size> {
+        match self {
+            Job::Cells(size, ..) | Job::Metres(size, ..) | Job::File(size, _) => Some(*size),
+            Job::List(..) | Job::Begin(_) | Job::Next(_) => None,
+        }
+    }
+
+    /// The ends that a pen is begun from.
+    pub fn begins(&self) -> Option<[i32; 4]> {
+        match self {
+            Job::Begin(ends) => Some(*ends),
+            _ => None,
         }
     }
 }
@@ -81,6 +108,8 @@ impl fmt::Display for Case {
                 write!(to, " {size} {ink}{survey}{fields}")
             }
             Job::List([nx, ny], ends) => write!(to, " {nx} {ny}{}", words(ends)),
+            Job::Begin(ends) => write!(to, "{}", words(ends)),
+            Job::Next(Pen { ends, told }) => write!(to, "{} {told}", words(ends)),
             Job::File(size, bytes) => {
                 let bytes: String = bytes.iter().map(|byte| format!("{byte:02x}")).collect();
                 write!(to, " {size} {bytes}")
@@ -102,6 +131,16 @@ fn numbers<T: FromStr + Default + Copy, const N: usize>(words: &mut SplitWhitesp
     Ok(found)
 }
 
+/// A job that is lent no sheet.
+fn without_sheet(name: &str, words: &mut SplitWhitespace) -> Result<Option<Job>, String> {
+    Ok(Some(match name {
+        "list" => Job::List(numbers(words)?, numbers(words)?),
+        "pen_begin" => Job::Begin(numbers(words)?),
+        "pen_next" => Job::Next(Pen { ends: numbers(words)?, told: number(words)? }),
+        _ => return Ok(None),
+    }))
+}
+
 impl FromStr for Case {
     type Err = String;
 
@@ -110,8 +149,8 @@ impl FromStr for Case {
         let words = &mut words;
         let name = words.next().ok_or("an empty case")?;
         let fill = number(words)?;
-        if name == "list" {
-            return Ok(Case { fill, job: Job::List(numbers(words)?, numbers(words)?) });
+        if let Some(job) = without_sheet(name, words)? {
+            return Ok(Case { fill, job });
         }
         let size = Size { len: number(words)?, width: number(words)?, height: number(words)? };
         if name == "file" {
@@ -149,7 +188,7 @@ mod tests {
     #[test]
     fn a_case_is_read_back_as_it_was_written() {
         for seed in 0..2000 {
-            for case in [Case::figure(seed), Case::file(seed)] {
+            for case in [Case::figure(seed), Case::file(seed), Case::pen(seed)] {
                 let text = case.to_string();
                 let again: Case = text.parse().unwrap();
                 assert_eq!(again.to_string(), text);

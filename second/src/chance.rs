@@ -1,7 +1,7 @@
 //! Inputs of the library made at random: sound ones, and ones at and beyond every limit.
-use crate::case::{Case, Job, Size, MOST_BYTES};
+use crate::case::{places, Case, Job, Size, MOST_BYTES};
 use crate::metres::{Metres, Survey};
-use crate::native::Cells;
+use crate::native::{Cells, Pen};
 use crate::random::Random;
 
 impl Case {
@@ -29,6 +29,13 @@ impl Case {
         let size = size(&mut random);
         let bytes = file(&mut random, size);
         Case { fill: random.number(), job: Job::File(size, bytes) }
+    }
+
+    pub fn pen(seed: u64) -> Case {
+        let mut random = Random(seed);
+        let ends = ends(&mut random);
+        let job = if random.once_in(2) { Job::Begin(ends) } else { Job::Next(pen(&mut random, ends)) };
+        Case { fill: random.number(), job }
     }
 }
 
@@ -160,11 +167,28 @@ fn pieces(random: &mut Random) -> u32 {
     }
 }
 
-fn list(random: &mut Random) -> Job {
+fn ends(random: &mut Random) -> [i32; 4] {
     let size = Size { len: 0, width: 64, height: 64 };
     let Cells::Line(ends) = line(random, size) else { unreachable!() };
-    let [x0, y0, x1, y1] = ends;
-    let cells = 1 + x0.abs_diff(x1).max(y0.abs_diff(y1)).min(36_000) as usize;
+    ends
+}
+
+/// A pen on a line, at its last cell, after it, or in a state that no asking leads to.
+fn pen(random: &mut Random, ends: [i32; 4]) -> Pen {
+    let cells = places(ends) as i64;
+    let told = match random.number() % 16 {
+        0 => random.number() as u32,
+        1 => random.one_of(&[u32::MAX, u32::MAX - 1, 1 << 31, 65_536, 32_768, 32_767]),
+        2..5 => (cells + random.within(-2, 2)).max(0) as u32,
+        _ => random.within(0, cells - 1) as u32,
+    };
+    let ends = if random.once_in(16) { [(); 4].map(|()| random.number() as i32) } else { ends };
+    Pen { ends, told }
+}
+
+fn list(random: &mut Random) -> Job {
+    let ends = ends(random);
+    let cells = places(ends);
     let places = [(); 2].map(|()| match random.number() % 12 {
         0 => cells - 1,
         1 => random.within(0, cells as i64) as usize,

@@ -47,7 +47,7 @@ impl Guarded {
         let bytes = count * size_of::<T>();
         assert!(bytes <= self.room);
         let skipped = if against == Against::Before { 0 } else { self.room - bytes };
-        // SAFETY: within the open pages, aligned because the room and the bytes are multiples of T's size, and any
+        // SAFETY: within the open pages, aligned because the room and the bytes are multiples of T's alignment, and any
         // bytes are a T.
         unsafe { std::slice::from_raw_parts_mut(self.start.add(skipped).cast(), count) }
     }
@@ -60,9 +60,10 @@ impl Drop for Guarded {
     }
 }
 
-/// A number of which any bytes are a value.
+/// What any bytes are a value of.
 pub trait Plain {}
 impl Plain for u8 {}
 impl Plain for i32 {}
 impl Plain for u32 {}
 impl Plain for u64 {}
+impl Plain for crate::native::Pen {}

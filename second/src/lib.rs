@@ -5,6 +5,7 @@ pub mod file;
 pub mod guard;
 pub mod metres;
 pub mod native;
+pub mod pen;
 pub mod random;
 pub mod rule;
 pub mod run;

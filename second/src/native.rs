@@ -14,6 +14,8 @@ mod declared {
                         x0: i32, y0: i32, x1: i32, y1: i32, x2: i32, y2: i32, s: u32) -> u32;
         pub fn pw_list(xs: *mut i32, nx: usize, ys: *mut i32, ny: usize,
                        x0: i32, y0: i32, x1: i32, y1: i32, cells: *mut u32) -> u32;
+        pub fn pw_pen_begin(pen: *mut super::Pen, x0: i32, y0: i32, x1: i32, y1: i32) -> u32;
+        pub fn pw_pen_next(pen: *mut super::Pen, x: *mut i32, y: *mut i32) -> u32;
         pub fn pw_file(sheet: *mut u8, len: usize, width: u32, height: u32,
                        file: *const u8, n: usize, value: *mut u64) -> u32;
         pub fn pw_line_metres(sheet: *mut u8, len: usize, width: u32, height: u32, ink: u8,
@@ -40,6 +42,14 @@ pub enum Cells {
     Circle([i32; 2], u32),
     Ellipse([i32; 2], u32, u32),
     Curve([i32; 6], u32),
+}
+
+/// A pen as the header has it: x and y of both ends, and how many cells were told.
+#[derive(Clone, Copy, Debug, PartialEq)]
+#[repr(C)]
+pub struct Pen {
+    pub ends: [i32; 4],
+    pub told: u32,
 }
 
 pub fn draw(lent: Lent, ink: u8, figure: Cells, cells: &mut u32) -> u32 {
@@ -79,6 +89,16 @@ pub fn draw_metres(lent: Lent, ink: u8, survey: Survey, figure: Metres, cells: &
 pub fn list(xs: &mut [i32], ys: &mut [i32], [x0, y0, x1, y1]: [i32; 4], cells: &mut u32) -> u32 {
     // SAFETY: as in `draw`.
     unsafe { declared::pw_list(xs.as_mut_ptr(), xs.len(), ys.as_mut_ptr(), ys.len(), x0, y0, x1, y1, cells) }
+}
+
+pub fn pen_begin(pen: &mut Pen, [x0, y0, x1, y1]: [i32; 4]) -> u32 {
+    // SAFETY: as in `draw`.
+    unsafe { declared::pw_pen_begin(pen, x0, y0, x1, y1) }
+}
+
+pub fn pen_next(pen: &mut Pen, x: &mut i32, y: &mut i32) -> u32 {
+    // SAFETY: as in `draw`.
+    unsafe { declared::pw_pen_next(pen, x, y) }
 }
 
 pub fn file(lent: Lent, file: &[u8], value: &mut u64) -> u32 {

@@ -25,6 +25,11 @@ impl Random {
         choices[self.number() as usize % choices.len()]
     }
 
+    /// So many numbers of 32 bits.
+    pub fn numbers(&mut self, count: usize) -> Vec<i32> {
+        (0..count).map(|_| self.number() as i32).collect()
+    }
+
     /// Bytes without a pattern.
     pub fn fill(&mut self, bytes: &mut [u8]) {
         for part in bytes.chunks_mut(8) {

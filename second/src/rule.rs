@@ -4,6 +4,8 @@ pub const LEAST: i64 = -16_384;
 pub const MOST: i64 = 16_383;
 
 pub type Cell = (i64, i64);
+/// A cell that a pen tells, and how many it has told then.
+pub type Told = (Cell, u64);
 
 #[derive(Clone, Debug)]
 pub enum Figure {
@@ -62,6 +64,8 @@ pub struct Rules {
     pub floor: fn(i64, i64) -> i64,
     /// The cell of a float.
     pub cell: fn(f64) -> Option<i64>,
+    /// What a pen of these ends that has told so many cells tells until it is finished.
+    pub asked: fn(&Rules, Cell, Cell, u64) -> Vec<Told>,
     /// The number 2, 3 or 4 that refuses a figure.
     pub refusal: fn(&Rules, &Figure) -> Option<u32>,
     /// Whether a file is read to its end before the first cell is written.
@@ -80,6 +84,7 @@ impl Rules {
             on_ellipse,
             floor: i64::div_euclid,
             cell: crate::metres::cell,
+            asked,
             refusal,
             reads_first: true,
             tells_offset: true,
@@ -179,6 +184,14 @@ pub fn refusal(rules: &Rules, figure: &Figure) -> Option<u32> {
         Figure::Curve(_, s) if s > 6 => Some(4),
         _ => None,
     }
+}
+
+/// Nothing after the last cell, nor for ends that no pen is begun from.
+pub fn asked(rules: &Rules, from: Cell, to: Cell, told: u64) -> Vec<Told> {
+    if (rules.refusal)(rules, &Figure::Line(from, to)).is_some() {
+        return Vec::new();
+    }
+    (rules.line)(from, to).into_iter().zip(1..).skip(told as usize).collect()
 }
 
 pub fn within(coordinate: i64) -> bool {

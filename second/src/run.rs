@@ -1,7 +1,8 @@
 //! One case, drawn by the library between guard pages and by the second program, and compared.
-use crate::case::{Case, Job, Size, MOST_BYTES, MOST_PLACES};
+use crate::case::{places, Case, Job, MOST_BYTES, MOST_PLACES};
 use crate::guard::{Against, Guarded};
 use crate::native::{self, Cells, Lent};
+use crate::pen::{self, Call};
 use crate::random::Random;
 use crate::rule::{Figure, Reply, Rules, Sheet};
 use std::fmt::Display;
@@ -12,14 +13,16 @@ pub struct Room {
     lists: [Guarded; 2],
     file: Guarded,
     value: Guarded,
+    pen: pen::Room,
 }
 
-/// What a case leaves behind: reply, value, the sheet, and the two lists.
+/// What a case leaves behind: reply, value, the sheet, the two lists, and each call of a pen.
 struct Outcome {
     number: u32,
     value: u64,
     sheet: Vec<u8>,
     lists: [Vec<i32>; 2],
+    calls: Vec<Call>,
 }
 
 impl Default for Room {
@@ -30,20 +33,27 @@ impl Default for Room {
             lists: [places(), places()],
             file: Guarded::with_room(1 << 16),
             value: Guarded::with_room(8),
+            pen: pen::Room::default(),
         }
     }
 }
 
 impl Room {
-    /// Draws a case both ways: the reply that both gave and whether a sheet or list changed, or what differs.
+    /// Draws a case both ways: the reply that both gave and whether a sheet, list or pen changed, or what differs.
     pub fn compare(&mut self, rules: &Rules, case: &Case) -> Result<(u32, bool), String> {
         let before = Outcome::before(case);
         let mut expected = Outcome::before(case);
         expected.by_rules(rules, &case.job);
         for against in [Against::Before, Against::After] {
             self.by_library(&before, &expected, &case.job, against)?;
+            if let Some(lent) = before.calls.first() {
+                let calls = self.pen.by_library(*lent, case.job.begins(), expected.calls.len(), against);
+                same("call", &calls, &expected.calls)?;
+            }
         }
-        let changed = expected.sheet != before.sheet || expected.lists != before.lists;
+        let pen = |outcome: &Outcome| outcome.calls.first().map(|call| call.pen);
+        let changed =
+            expected.sheet != before.sheet || expected.lists != before.lists || pen(&expected) != pen(&before);
         Ok((expected.number, changed))
     }
 
@@ -54,25 +64,23 @@ impl Room {
         let (xs, ys) = (xs.lend::<i32>(before.lists[0].len(), against), ys.lend::<i32>(before.lists[1].len(), against));
         xs.copy_from_slice(&before.lists[0]);
         ys.copy_from_slice(&before.lists[1]);
-        let sides = |size: &Size| (size.width, size.height);
+        let (width, height) = job.size().map_or((0, 0), |size| (size.width, size.height));
         let mut short = |call: &mut dyn FnMut(&mut u32) -> u32| {
             let value = &mut self.value.lend::<u32>(1, against)[0];
             *value = before.value as u32;
             (call(value), u64::from(*value))
         };
         let (number, value) = match job {
-            Job::Cells(size, ink, figure) => {
-                let (width, height) = sides(size);
+            Job::Cells(_, ink, figure) => {
                 short(&mut |value| native::draw(Lent { bytes: sheet, width, height }, *ink, *figure, value))
             }
-            Job::Metres(size, ink, survey, figure) => {
-                let (width, height) = sides(size);
+            Job::Metres(_, ink, survey, figure) => {
                 let draw = native::draw_metres;
                 short(&mut |value| draw(Lent { bytes: sheet, width, height }, *ink, *survey, *figure, value))
             }
-            Job::List(_, ends) => short(&mut |value| native::list(xs, ys, *ends, value)),
-            Job::File(size, bytes) => {
-                let (width, height) = sides(size);
+            Job::List(_, ends) | Job::Begin(ends) => short(&mut |value| native::list(xs, ys, *ends, value)),
+            Job::Next(_) => return Ok(()),
+            Job::File(_, bytes) => {
                 let file = self.file.lend::<u8>(bytes.len(), against);
                 file.copy_from_slice(bytes);
                 let value = &mut self.value.lend::<u64>(1, against)[0];
@@ -109,29 +117,34 @@ impl Outcome {
         // an export that tells its value in 32 bits is lent 32 bits
         let most = if matches!(case.job, Job::File(..)) { u64::MAX } else { u64::from(u32::MAX) };
         let value = random.number() & most;
-        let (mut sheet, mut lists) = (Vec::new(), [Vec::new(), Vec::new()]);
+        let (mut sheet, mut lists, mut calls) = (Vec::new(), [Vec::new(), Vec::new()], Vec::new());
         match &case.job {
             Job::Cells(size, ..) | Job::Metres(size, ..) | Job::File(size, _) => {
                 sheet.resize(size.len, 0);
                 random.fill(&mut sheet);
             }
-            Job::List(places, _) => {
-                lists = places.map(|count| (0..count).map(|_| random.number() as i32).collect());
+            Job::List(places, _) => lists = places.map(|count| random.numbers(count)),
+            Job::Begin(ends) => {
+                lists = [(); 2].map(|()| random.numbers(places(*ends)));
+                calls.push(Call::before(&mut random, None));
             }
+            Job::Next(pen) => calls.push(Call::before(&mut random, Some(*pen))),
         }
-        Outcome { number: 0, value, sheet, lists }
+        Outcome { number: 0, value, sheet, lists, calls }
     }
 
     fn by_rules(&mut self, rules: &Rules, job: &Job) {
+        self.calls = self.calls.first().map_or(Vec::new(), |lent| lent.by_rules(rules, job.begins()));
         let mut sheet = Sheet { width: 0, height: 0, bytes: &mut self.sheet };
-        if let Job::Cells(size, ..) | Job::Metres(size, ..) | Job::File(size, _) = job {
+        if let Some(size) = job.size() {
             (sheet.width, sheet.height) = (size.width.into(), size.height.into());
         }
         let Reply { number, value } = match job {
             Job::Cells(_, ink, figure) => rules.draw(&mut sheet, *ink, &widened(figure)),
             Job::Metres(_, ink, survey, figure) => rules.draw_metres(&mut sheet, *ink, *survey, *figure),
             Job::File(_, bytes) => rules.draw_file(&mut sheet, bytes),
-            Job::List(_, ends) => {
+            Job::Next(_) => Reply { number: self.calls[0].number, value: None },
+            Job::List(_, ends) | Job::Begin(ends) => {
                 let [x0, y0, x1, y1] = ends.map(i64::from);
                 let [xs, ys] = &mut self.lists;
                 rules.list(xs, ys, (x0, y0), (x1, y1))

@@ -1,5 +1,5 @@
 //! Second programs that are wrong on purpose: a comparison that is worth anything catches each.
-use crate::rule::{cells_from, line_cells, place, refusal, Cell, Figure, Rules};
+use crate::rule::{asked, cells_from, line_cells, place, refusal, Cell, Figure, Rules, Told};
 
 /// Each with what is wrong in it.
 pub fn wrong_programs() -> Vec<(&'static str, Rules)> {
@@ -8,6 +8,8 @@ pub fn wrong_programs() -> Vec<(&'static str, Rules)> {
         ("a line walks from the first named end", Rules { line: cells_from, ..right }),
         ("a line leaves out its last cell", Rules { line: without_last, ..right }),
         ("a line is cut at the sheet's edge and the rest drawn afresh", Rules { drawn: cut, ..right }),
+        ("a pen marks time after its first cell", Rules { asked: marks_time, ..right }),
+        ("a finished pen answers its last cell again", Rules { asked: once_more, ..right }),
         ("an off-sheet x is wrapped into the next row", Rules { place: wrapped, ..right }),
         ("a circle's outer edge has < for <=", Rules { on_circle: circle_outside_edge, ..right }),
         ("a circle's inner edge has <= for <", Rules { on_circle: circle_inside_edge, ..right }),
@@ -37,6 +39,17 @@ fn cut(_: &Rules, width: i64, height: i64, from: Cell, to: Cell) -> Vec<Cell> {
         [first, .., last] => line_cells(first, last),
         _ => cells,
     }
+}
+
+fn marks_time(rules: &Rules, from: Cell, to: Cell, told: u64) -> Vec<Told> {
+    let cells = asked(rules, from, to, told);
+    cells.iter().map(|_| cells[0]).collect()
+}
+
+fn once_more(rules: &Rules, from: Cell, to: Cell, told: u64) -> Vec<Told> {
+    let mut cells = asked(rules, from, to, told);
+    cells.extend(cells.last().copied());
+    cells
 }
 
 fn wrapped(width: i64, height: i64, (x, y): Cell) -> Option<usize> {

@@ -19,6 +19,7 @@ use sheet::lift_cell;
 use sheet::lower_cell;
 
 // The two ends, from the first named to the second, and how many cells were answered.
+#[repr(C)]
 pub struct Pen {
     pub from: Cell,
     pub to: Cell,

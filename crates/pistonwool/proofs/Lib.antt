@@ -1,3 +1,4 @@
 pub mod Boundary
+pub mod Pens
 mod Told
 pub mod Unique

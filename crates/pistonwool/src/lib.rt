@@ -1,4 +1,4 @@
-// What C and Rust link: the drawings on numbers and slices. Each answers a number of the table.
+// What C and Rust link: the drawings on numbers and slices, and the pen. Each answers a number of the table; a pen that is asked answers 1 for a cell and 0 for finished.
 ghost use mathlib.Core.Path.{_≡_};
 ghost use Rattle.sheet.specs.Counted.{toldCounted};
 ghost use Rattle.sheet.specs.Drawn.{toldDrawn};
@@ -9,6 +9,7 @@ ghost use Rattle.pistonwool.specs.Told.{replied, firstValue};
 mod cells;
 mod file;
 mod metres;
+mod pen;
 
 pub use cells::pw_circle;
 pub use cells::pw_curve;
@@ -21,6 +22,8 @@ pub use file::pw_file;
 pub use metres::pw_circle_metres;
 pub use metres::pw_ellipse_metres;
 pub use metres::pw_line_metres;
+pub use pen::pw_pen_begin;
+pub use pen::pw_pen_next;
 use sheet::Counted;
 use sheet::Drawn;
 

@@ -8,6 +8,7 @@ ghost use Rattle.sheet.specs.Mark.{markAnswer};
 ghost use Rattle.sheet.specs.Inner.{moved, lowered, movedCell, unmovedCell, loweredCell};
 
 // A cell of the unlimited grid.
+#[repr(C)]
 pub struct Cell {
     pub x: i32,
     pub y: i32,

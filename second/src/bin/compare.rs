@@ -1,6 +1,6 @@
-//! Compares the proved library with the second drawing program on random figures and files.
+//! Compares the proved library with the second drawing program on random figures, files and pens.
 //!
-//!     compare [COUNT] [SEED]    COUNT figures and COUNT files
+//!     compare [COUNT] [SEED]    COUNT figures, COUNT files and COUNT pens
 //!     compare --one CASE        one case, as a difference prints it
 //!     compare --teeth           wrong second programs, each of which must be caught
 use second::case::Case;
@@ -53,7 +53,7 @@ fn case(make: Make, seed: u64, i: u64) -> Case {
     make(Random(seed ^ i.wrapping_mul(0xd134_2543_de82_ef95)).number())
 }
 
-/// How often each export gave each reply, and how often it changed a sheet or list.
+/// How often each export gave each reply, and how often it changed a sheet, list or pen.
 #[derive(Default)]
 struct Tally(BTreeMap<&'static str, ([u64; 11], u64)>);
 
@@ -113,11 +113,11 @@ fn run(name: &str, make: Make, count: u64, seed: u64) -> bool {
     differences == 0
 }
 
-/// Whether a wrong program is caught on figures or on files.
+/// Whether a wrong program is caught on figures, files or pens.
 fn caught(rules: &Rules, seed: u64) -> bool {
     let mut room = Room::default();
     (0..PATIENCE).any(|i| {
-        [Case::figure, Case::file].into_iter().any(|make| {
+        [Case::figure, Case::file, Case::pen].into_iter().any(|make| {
             let case = case(make, seed, i);
             compare(&mut room, rules, &case).is_err_and(|what| {
                 println!("  caught after {i} cases: {what}\n  {case}");
@@ -197,7 +197,7 @@ fn main() -> ExitCode {
                 return usage();
             };
             count(
-                [("figures", Case::figure as Make), ("files", Case::file)]
+                [("figures", Case::figure as Make), ("files", Case::file), ("pens", Case::pen)]
                     .map(|(name, make)| run(name, make, many, seed)),
             )
         }
