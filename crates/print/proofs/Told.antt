@@ -15,7 +15,7 @@ use Rattle.record.specs.Reading.{refuseAt}
 use Rattle.drawing.specs.File.{contents, recordsOf, paintAll, drawFileAnswer, toldFiled}
 use Rattle.drawing.specs.declared.Filed.{Filed}
 use Rattle.drawing.specs.declared.Filed.the-variants.{Done, Refused}
-use Rattle.print.specs.Text.{sheet, zeros, picture, refusal, tooLong, told, textOf}
+use Rattle.print.specs.Text.{sheet, zeros, picture, refusal, tooLong, told, textOf, replyOf}
 use Rattle.print.proofs.Writing.{Written, write-ends}
 
 -- what is answered of a file, and what is drawn of one that is not refused
@@ -57,6 +57,7 @@ pub prints : (file text before after : List ℕ) (r : ℕ) → textOf file ≡ t
 prints file text before after r e w l =
     subst (λ (t : List ℕ). (r ≡ length t) × (after ≡ t ++ drop (length t) before)) (sym e) (write-ends before text after r w l)
 
--- and its length lies within the bytes that begin with it
-pub within : (file before after : List ℕ) (r : ℕ) → (r ≡ length (textOf file)) × (after ≡ textOf file ++ drop (length (textOf file)) before) → r ≤ length after
-within file before after r h = omega (arith, h .0, ap length (h .1), length-append (textOf file) (drop (length (textOf file)) before))
+-- a reply's length lies within the bytes that begin with it
+pub within : (whole : Bool) (file before after : List ℕ) (r : ℕ) → (r ≡ length (replyOf whole file)) × (after ≡ replyOf whole file ++ drop (length (replyOf whole file)) before) → r ≤ length after
+within whole file before after r h =
+    omega (arith, h .0, ap length (h .1), length-append (replyOf whole file) (drop (length (replyOf whole file)) before))
