@@ -25,7 +25,8 @@ install: library
 	install -d "$$root/lib/pkgconfig" "$$root/include" && \
 	install -m 644 target/native/libpistonwool.a "$$root/lib/" && \
 	install -m 644 include/pistonwool.h "$$root/include/" && \
-	sed -e "s|@PREFIX@|$$prefix|" -e "s|@VERSION@|$$(cat VERSION)|" pistonwool.pc.in >"$$root/lib/pkgconfig/pistonwool.pc"
+	sed -e "s|@PREFIX@|$$prefix|" -e "s|@VERSION@|$$(cat VERSION)|" pistonwool.pc.in | \
+	install -m 644 /dev/stdin "$$root/lib/pkgconfig/pistonwool.pc"
 
 clean:
 	rm -rf target

@@ -16,6 +16,7 @@
 #include <stddef.h>
 #include <stdint.h>
 
+/* the version of this header and of the library installed with it */
 #define PW_VERSION "0.1.0"
 
 #if SIZE_MAX != UINT64_MAX
