@@ -76,7 +76,7 @@ textOf file =
     (told (drawFileAnswer sheet (bytes sheet) file) (paintAll sheet (recordsOf (contents file)) zeros))
     tooLong
 
--- `input cannot be read`
+-- `input cannot be read`, of which document 01 does not speak
 abbrev pub unreadable : List ℕ
 unreadable = (105 ∷ 110 ∷ 112 ∷ 117 ∷ 116 ∷ 32 ∷ 99 ∷ 97 ∷ 110 ∷ 110 ∷ 111 ∷ 116 ∷ 32 ∷ 98 ∷ 101 ∷ 32 ∷ 114 ∷ 101 ∷ 97 ∷ 100 ∷ []) ++ newline
 
