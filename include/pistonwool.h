@@ -6,12 +6,22 @@
  * Every function but pw_pen_next answers a number of enum pw_reply. Any number other than PW_DONE is a refusal; a
  * refusal leaves every byte and every number that was lent as it was, but for the offset that pw_file tells.
  *
- * Pointers must not be null, must point to as many elements as the length after them says, and must not overlap. */
+ * Pointers must not be null, not even with length 0, must point to as many elements as the length after them says, and
+ * must not overlap.
+ * Threads: there is no shared state, so any number of threads may call at once on different buffers.
+ * Only for 64-bit machines, where a size_t has 8 bytes. */
 #ifndef PISTONWOOL_H
 #define PISTONWOOL_H
 
 #include <stddef.h>
 #include <stdint.h>
+
+/* the version of this header and of the library installed with it */
+#define PW_VERSION "0.1.0"
+
+#if SIZE_MAX != UINT64_MAX
+#error "Pistonwool is for 64-bit machines only"
+#endif
 
 #ifdef __cplusplus
 extern "C" {

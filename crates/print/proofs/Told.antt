@@ -2,7 +2,7 @@
 use Prim.Native.Nat.{ℕ, _≤_, _<_}
 use mathlib.Core.Path.{_≡_, sym, ap, subst, _∙_}
 use mathlib.Core.List.{List, [], _∷_, _++_}
-use mathlib.Core.Bool.{Bool, cond}
+use mathlib.Core.Bool.{Bool, true, false, cond}
 use native.Mathlib.Omega.{arith}
 use lib.IntN.{pos}
 use lib.ListN.{length, drop, length-append}
@@ -15,7 +15,7 @@ use Rattle.record.specs.Reading.{refuseAt}
 use Rattle.drawing.specs.File.{contents, recordsOf, paintAll, drawFileAnswer, toldFiled}
 use Rattle.drawing.specs.declared.Filed.{Filed}
 use Rattle.drawing.specs.declared.Filed.the-variants.{Done, Refused}
-use Rattle.print.specs.Text.{sheet, zeros, picture, refusal, tooLong, told, textOf}
+use Rattle.print.specs.Text.{sheet, zeros, picture, refusal, tooLong, told, textOf, unreadable, replyOf}
 use Rattle.print.proofs.Writing.{Written, write-ends}
 
 -- what is answered of a file, and what is drawn of one that is not refused
@@ -51,12 +51,26 @@ text-refused file reply q at n l e h m =
     ∙ ap (λ (t : Bool). cond t (picture (painted file)) (refusal (number q) at)) (number-not-0 q)
     ∙ ap (λ (k : ℕ). refusal k at) (sym m)
 
+pub reply-whole : (whole : Bool) (file : List ℕ) → whole ≡ true → replyOf whole file ≡ textOf file
+unfolding replyOf
+reply-whole whole file e = ap (λ (t : Bool). cond t (textOf file) unreadable) e
+
+pub reply-failed : (whole : Bool) (file : List ℕ) → whole ≡ false → replyOf whole file ≡ unreadable
+unfolding replyOf
+reply-failed whole file e = ap (λ (t : Bool). cond t (textOf file) unreadable) e
+
+-- a text that is the one wanted
+pub begins : (wanted text before after : List ℕ) (r : ℕ) → wanted ≡ text → (r ≡ length text) × (after ≡ text ++ drop (length text) before)
+    → (r ≡ length wanted) × (after ≡ wanted ++ drop (length wanted) before)
+begins wanted text before after r e h =
+    subst (λ (t : List ℕ). (r ≡ length t) × (after ≡ t ++ drop (length t) before)) (sym e) h
+
 -- a written text that is the file's
 pub prints : (file text before after : List ℕ) (r : ℕ) → textOf file ≡ text → Written before text after r → r ≤ length before
     → (r ≡ length (textOf file)) × (after ≡ textOf file ++ drop (length (textOf file)) before)
-prints file text before after r e w l =
-    subst (λ (t : List ℕ). (r ≡ length t) × (after ≡ t ++ drop (length t) before)) (sym e) (write-ends before text after r w l)
+prints file text before after r e w l = begins (textOf file) text before after r e (write-ends before text after r w l)
 
--- and its length lies within the bytes that begin with it
-pub within : (file before after : List ℕ) (r : ℕ) → (r ≡ length (textOf file)) × (after ≡ textOf file ++ drop (length (textOf file)) before) → r ≤ length after
-within file before after r h = omega (arith, h .0, ap length (h .1), length-append (textOf file) (drop (length (textOf file)) before))
+-- a reply's length lies within the bytes that begin with it
+pub within : (whole : Bool) (file before after : List ℕ) (r : ℕ) → (r ≡ length (replyOf whole file)) × (after ≡ replyOf whole file ++ drop (length (replyOf whole file)) before) → r ≤ length after
+within whole file before after r h =
+    omega (arith, h .0, ap length (h .1), length-append (replyOf whole file) (drop (length (replyOf whole file)) before))

@@ -1,7 +1,7 @@
 -- Document 01, last part of "Record file": the text that the printing program prints for the bytes of its input.
 use Prim.Native.Nat.{ℕ, zero, suc, _+_, _/_, _%_}
 use mathlib.Core.List.{List, [], _∷_, _++_}
-use mathlib.Core.Bool.{cond}
+use mathlib.Core.Bool.{Bool, cond}
 use lib.Dec.{leb, ltb, eqb}
 use lib.IntN.{pos, natAbs}
 use lib.ListN.{length, getD, replicate}
@@ -75,3 +75,11 @@ textOf file =
     cond (leb (length file) 4096)
     (told (drawFileAnswer sheet (bytes sheet) file) (paintAll sheet (recordsOf (contents file)) zeros))
     tooLong
+
+-- `input cannot be read`, of which document 01 does not speak
+abbrev pub unreadable : List ℕ
+unreadable = (105 ∷ 110 ∷ 112 ∷ 117 ∷ 116 ∷ 32 ∷ 99 ∷ 97 ∷ 110 ∷ 110 ∷ 111 ∷ 116 ∷ 32 ∷ 98 ∷ 101 ∷ 32 ∷ 114 ∷ 101 ∷ 97 ∷ 100 ∷ []) ++ newline
+
+-- Of an input that cannot be read to its end nothing is drawn.
+unfoldable pub replyOf : Bool → List ℕ → List ℕ
+replyOf whole file = cond whole (textOf file) unreadable

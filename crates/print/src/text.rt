@@ -4,7 +4,7 @@ ghost use mathlib.Core.Path.{_≡_};
 ghost use mathlib.Core.List.{_++_};
 ghost use lib.ListN.{length, drop};
 ghost use lib.Seq.{sets};
-ghost use Rattle.print.specs.Text.{character, line, picture, decimal, refusal, textOf};
+ghost use Rattle.print.specs.Text.{character, line, picture, decimal, refusal, textOf, unreadable, replyOf};
 use drawing::Filed;
 use sheet::Shape;
 
@@ -46,6 +46,15 @@ fn put_refusal(out: &mut [u8], number: u32, offset: usize) -> usize
     let placed = put(out, numbered, b" at ");
     let ended = put_decimal(out, placed, offset as u64);
     put(out, ended, b"\n")
+}
+
+// Writes the line for an input that cannot be read, and answers its length.
+fn put_unreadable(out: &mut [u8]) -> usize
+    requires { ⌜ 21 ≤ length (now out) ⌝ }
+    ensures { λ r. ⌜ r ≡ length unreadable ⌝ }
+    ensures { λ r. ⌜ now (out .exit) ≡ sets (now (out .entry)) 0 unreadable ⌝ }
+{
+    put(out, 0, b"input cannot be read\n")
 }
 
 // The character of a byte.
@@ -103,5 +112,17 @@ pub fn text(file: &[u8], out: &mut [u8; 136]) -> usize
             136
         }
         Filed::Refused(refusal, offset) => put_refusal(out, refusal.number(), offset),
+    }
+}
+
+// Writes the reply to what was read, the whole input or what came before a read failed, and answers its length.
+pub fn reply(whole: bool, file: &[u8], out: &mut [u8; 136]) -> usize
+    ensures { λ r. ⌜ r ≡ length (replyOf whole (now (file .entry))) ⌝ }
+    ensures { λ r. ⌜ now (out .exit) ≡ replyOf whole (now (file .entry)) ++ drop (length (replyOf whole (now (file .entry)))) (now (out .entry)) ⌝ }
+{
+    if whole {
+        text(file, out)
+    } else {
+        put_unreadable(out)
     }
 }

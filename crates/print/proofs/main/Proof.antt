@@ -8,46 +8,58 @@ use borrow.Author.Needs.{needs}
 use Rattle.print.proofs.main.Statement.{statement}
 use Rattle.print.proofs.main.Tie as tie
 
-slice-aggregate-read-full : tie.Need-slice-aggregate-read-full
-slice-aggregate-read-full c = search needs
+slice-aggregate-read-input : tie.Need-slice-aggregate-read-input
+slice-aggregate-read-input c = search needs
 
-read-full-requires : tie.Need-read-full-requires
-read-full-requires c κs = search needs
+read-input-requires : tie.Need-read-input-requires
+read-input-requires c κs = search needs
 
 array-share-prefix-file : tie.Need-array-share-prefix-file
 array-share-prefix-file c = search needs
 
-slice-aggregate-text : tie.Need-slice-aggregate-text
-slice-aggregate-text c = search needs
+slice-aggregate-reply : tie.Need-slice-aggregate-reply
+slice-aggregate-reply c = search needs
 
-text-requires : tie.Need-text-requires
-text-requires c κs = search needs
+reply-requires : tie.Need-reply-requires
+reply-requires c κs = search needs
 
-in-out : (c : tie.After-text) → c .text .result ≤ length (c .text .last .1 .0)
-in-out c = within _ _ (c .text .last .1 .0) (c .text .result) (c .text .ensures)
+in-out : (c : tie.After-reply) → c .reply .result ≤ length (c .reply .last .1 .1 .0)
+in-out c = within _ _ _ (c .reply .last .1 .1 .0) (c .reply .result) (c .reply .ensures)
 
 array-share-prefix-out : tie.Need-array-share-prefix-out
 array-share-prefix-out c = in-out c
 
 slice-aggregate-write-all : tie.Need-slice-aggregate-write-all
-slice-aggregate-write-all c = sym (length-take-le (c .before .text .result) (c .before .text .last .1 .0) (in-out (c .before)))
+slice-aggregate-write-all c = sym (length-take-le (c .before .reply .result) (c .before .reply .last .1 .1 .0) (in-out (c .before)))
 
 write-all-requires : tie.Need-write-all-requires
 write-all-requires c κs = search needs
 
+slice-aggregate-write-all-2 : tie.Need-slice-aggregate-write-all-2
+slice-aggregate-write-all-2 c = search needs
+
+write-all-requires-2 : tie.Need-write-all-requires-2
+write-all-requires-2 c κs = search needs
+
 returns : tie.Need-returns
 returns c = search needs
+
+returns-2 : tie.Need-returns-2
+returns-2 c = search needs
 
 pub main-spec : {M : Type 1} → statement M
 main-spec =
     tie.close
     (tie.spec
-    slice-aggregate-read-full
-    read-full-requires
+    slice-aggregate-read-input
+    read-input-requires
     array-share-prefix-file
-    slice-aggregate-text
-    text-requires
+    slice-aggregate-reply
+    reply-requires
     array-share-prefix-out
     slice-aggregate-write-all
     write-all-requires
-    returns)
+    slice-aggregate-write-all-2
+    write-all-requires-2
+    returns
+    returns-2)
