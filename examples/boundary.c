@@ -14,6 +14,9 @@ int main(void) {
     struct pw_pen pen;
     int32_t x, y;
 
+    /* once at the start: figures in metres, of which this program has none, need this of the thread that draws them */
+    if (!pw_floats_sound())
+        return 1;
     if (pw_line(harbour, sizeof harbour, WIDTH, HEIGHT, 1, 0, 7, 15, 0, &cells) != PW_DONE)
         return 1;
     if (pw_line(hill, sizeof hill, WIDTH, HEIGHT, 1, 15, 0, 0, 7, &cells) != PW_DONE)

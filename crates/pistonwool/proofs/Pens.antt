@@ -17,7 +17,7 @@ use Rattle.line.specs.declared.pen.Asked.{Asked}
 use Rattle.line.specs.declared.pen.Asked.the-variants as asked
 use Rattle.line.proofs.Replies.{begun-one, asked-one}
 use Rattle.survey.specs.Metres.{cell}
-use Rattle.pistonwool.specs.Told.{askedNumber, askedCell}
+use Rattle.pistonwool.specs.Inner.{askedNumber, askedCell}
 
 -- the pen that a beginning leaves where another was before
 abbrev pub penAfter : Begun → Pen → Pen

@@ -1,2 +1,3 @@
 pub mod Boundary
+pub mod Inner
 pub mod Told

@@ -7,10 +7,7 @@ use lib.ListN.{getD}
 use lib.IntN.{pos, natAbs}
 use lib.Ieee.{Float}
 use Rattle.sheet.specs.Reply.{Answer}
-use Rattle.sheet.specs.declared.Cell.{Cell}
 use Rattle.sheet.specs.declared.Shape.{Shape}
-use Rattle.line.specs.declared.pen.Asked.{Asked}
-use Rattle.line.specs.declared.pen.Asked.the-variants as asked
 use Rattle.survey.specs.declared.Survey.{Survey}
 
 -- the answer of a number and one value
@@ -27,12 +24,3 @@ shapeOf width height = record { width = width; height = height }
 
 abbrev pub surveyOf : Float → Float → Float → Survey
 surveyOf east north size = record { east = east; north = north; size = size }
-
--- the number of an asked pen's reply: 1 with a cell, 0 for finished; and its cell, or what was before
-abbrev pub askedNumber : Asked → ℕ
-askedNumber (asked.Cell c) = 1
-askedNumber asked.Finished = 0
-
-abbrev pub askedCell : Asked → Cell → Cell
-askedCell (asked.Cell c) before = c
-askedCell asked.Finished before = before

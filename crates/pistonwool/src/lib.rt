@@ -1,4 +1,5 @@
-// What C and Rust link: the drawings on numbers and slices, and the pen. Each answers a number of the table; a pen that is asked answers 1 for a cell and 0 for finished.
+// What C and Rust link: the drawings on numbers and slices, and the pen.
+// Each answers a number of the table; but a pen that is asked answers 1 for a cell and 0 for finished.
 ghost use mathlib.Core.Path.{_≡_};
 ghost use Rattle.sheet.specs.Counted.{toldCounted};
 ghost use Rattle.sheet.specs.Drawn.{toldDrawn};
