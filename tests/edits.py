@@ -122,12 +122,10 @@ def changed_functions(entry, problems):
     return found
 
 
-def refused(entry, place):
+def refused(entry, log, place):
     """whether the edit's log refuses a place"""
     file, *function, step = place.split()
-    copy = ROOT / "target" / "must-fail" / entry.crate / entry.label
-    log = copy / ".log"
-    for line in log.read_text().splitlines() if log.exists() else ():
+    for line in log.splitlines():
         here = re.search(re.escape(f"{entry.edit}/{file}") + r"(?:/Proof)?(?:\.antt|\.rt):(\d+):\d+: ", line)
         if not here or f"`{step}`" not in line or UNFIT.search(line):
             continue
@@ -136,6 +134,17 @@ def refused(entry, place):
         if ": error: " in line or line.startswith("note: "):
             return True
     return False
+
+
+def check_refused(entry, problems):
+    """the prover refused the entry at each of its places"""
+    log = ROOT / "target" / "must-fail" / entry.crate / entry.label / ".log"
+    if not log.exists():
+        problems.append(f"{entry}: no log: rt must-fail {entry.crate}")
+        return
+    for place in entry.places:
+        if not refused(entry, log.read_text(), place):
+            problems.append(f"{entry}: not refused at {place}")
 
 
 def fact(entry, place):
@@ -162,18 +171,21 @@ def check(entry, problems):
             problems.append(f"{entry}: changes {file}, which is not in {folder}")
         if "/*" in new or "//" in new:
             problems.append(f"{entry}: comments code out")
-    for place in entry.places:
-        if not refused(entry, place):
-            problems.append(f"{entry}: not refused at {place}")
+    check_refused(entry, problems)
     if entry.kind == "wrong":
         check_wrong(entry, problems)
     else:
-        file, _, name = entry.subject.partition(" ")
-        law = ROOT / "crates" / entry.crate / f"{file}.antt"
-        if {f"{file}.antt"} != {f for f, _, _ in entry.changes}:
-            problems.append(f"{entry}: changes another file")
-        elif not re.search(rf"^ *(?:unfoldable |abbrev )*pub (?:record |data )?{name}\b", law.read_text(), re.M):
-            problems.append(f"{entry}: {file} does not define {name}")
+        check_altered(entry, problems)
+
+
+def check_altered(entry, problems):
+    """what it changes is the file that it names, which defines what it names"""
+    file, _, name = entry.subject.partition(" ")
+    law = ROOT / "crates" / entry.crate / f"{file}.antt"
+    if {f"{file}.antt"} != {changed for changed, _, _ in entry.changes}:
+        problems.append(f"{entry}: changes another file")
+    elif not re.search(rf"^ *(?:unfoldable |abbrev )*pub (?:record |data )?{name}\b", law.read_text(), re.M):
+        problems.append(f"{entry}: {file} does not define {name}")
 
 
 def check_wrong(entry, problems):
