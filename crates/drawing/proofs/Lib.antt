@@ -5,5 +5,6 @@ mod Figures
 pub mod InMetres
 pub mod Nothing
 mod Records
+pub mod Replies
 pub mod Starred
 pub mod Unique

@@ -36,7 +36,7 @@ use Rattle.drawing.specs.Figure.{onFigure, figureAnswer}
 use Rattle.drawing.specs.File.{contentsIn, contentsFrom, contents, recordsOf, paintAll, drawFileAnswer}
 use Rattle.drawing.specs.Metres.{isRadius, areSemiAxes, cellsAnswer, metresAnswer, onCells, onMetres}
 
-abbrev small : Shape
+abbrev pub small : Shape
 small = record { width = 1; height = 1 }
 
 abbrev lent : List ℕ
@@ -79,10 +79,10 @@ unfolding drawFileAnswer contents contentsFrom contentsIn readAt foundAt kindFou
 file-draws e = nothing e
 
 -- in metres: a survey with its origins at 0.0 and cells of 1.0
-abbrev whole : ℕ → Float
+abbrev pub whole : ℕ → Float
 whole n = ofInt binary64 (pos n)
 
-abbrev home : Survey
+abbrev pub home : Survey
 home = record { east = whole 0; north = whole 0; size = whole 1 }
 
 sound-home : sound home ≡ true
@@ -98,7 +98,7 @@ unfolding metresAnswer onMetres
 as-cells f c e = λ i. settled (unless (fits small 1) Size (cellsAnswer small (e i))) (paint small 1 (onCells (e i)) lent) lent
 
 -- 0.0 and 1.0, as positions and as lengths
-zero-at : findCell (div binary64 (sub binary64 (whole 0) (whole 0)) (whole 1)) ≡ At (pos 0)
+pub zero-at : findCell (div binary64 (sub binary64 (whole 0) (whole 0)) (whole 1)) ≡ At (pos 0)
 unfolding coordinate isCellOf sub div ofInt le lt
 zero-at = cell-is _ (pos 0) tt tt
 
@@ -106,7 +106,7 @@ one-at : findCell (div binary64 (sub binary64 (whole 1) (whole 0)) (whole 1)) �
 unfolding coordinate isCellOf sub div ofInt le lt
 one-at = cell-is _ (pos 1) tt tt
 
-zero-long : findCell (div binary64 (whole 0) (whole 1)) ≡ At (pos 0)
+pub zero-long : findCell (div binary64 (whole 0) (whole 1)) ≡ At (pos 0)
 unfolding coordinate isCellOf div ofInt le lt
 zero-long = cell-is _ (pos 0) tt tt
 
@@ -114,15 +114,15 @@ one-long : findCell (div binary64 (whole 1) (whole 1)) ≡ At (pos 1)
 unfolding coordinate isCellOf div ofInt le lt
 one-long = cell-is _ (pos 1) tt tt
 
-line-cells : inCells home (metres.Line (whole 0) (whole 0) (whole 0) (whole 0)) ≡ cells.Line (cellOf 0 0) (cellOf 0 0)
+pub line-cells : inCells home (metres.Line (whole 0) (whole 0) (whole 0) (whole 0)) ≡ cells.Line (cellOf 0 0) (cellOf 0 0)
 unfolding inCells
 line-cells = simp (sound-home, zero-at)
 
-circle-cells : inCells home (metres.Circle (whole 0) (whole 0) (whole 0)) ≡ cells.Circle (cellOf 0 0) (pos 0)
+pub circle-cells : inCells home (metres.Circle (whole 0) (whole 0) (whole 0)) ≡ cells.Circle (cellOf 0 0) (pos 0)
 unfolding inCells
 circle-cells = simp (sound-home, zero-at, zero-long)
 
-ellipse-cells : inCells home (metres.Ellipse (whole 1) (whole 0) (whole 1) (whole 1)) ≡ cells.Ellipse (cellOf 1 0) (pos 1) (pos 1)
+pub ellipse-cells : inCells home (metres.Ellipse (whole 1) (whole 0) (whole 1) (whole 1)) ≡ cells.Ellipse (cellOf 1 0) (pos 1) (pos 1)
 unfolding inCells
 ellipse-cells = simp (sound-home, one-at, zero-at, one-long)
 

@@ -1,0 +1,200 @@
+-- A program that refuses all, and one that always replies the same, break the statement of every function that replies.
+-- For each function here are an input that is answered with 0 and one that is refused; or, where none is refused, two that are answered differently.
+-- By `refuses-all` and `replies-same` (crates/sheet, proofs/Empty) these two inputs rule out every such program.
+use Prim.Native.Nat.{ℕ}
+use mathlib.Core.Path.{_≡_, refl, ap, _∙_}
+use mathlib.Core.List.{List, [], _∷_}
+use mathlib.Core.Bool.{true, false, true≢false, _&&_}
+use native.Mathlib.Omega.{arith}
+use lib.Dec.{eqb}
+use lib.ListN.{length}
+use lib.IntN.{pos, natAbs}
+use lib.Ieee.{Float, nan, ofInt, sub, div, le, lt}
+use Rattle.laws.specs.Below.{all}
+use Rattle.sheet.specs.Sheet.{fits, coordinate, inLimits, cellOf, semiAxis}
+use Rattle.sheet.specs.Reply.{Answer, number}
+use Rattle.sheet.specs.Mark.{markAnswer}
+use Rattle.sheet.specs.Inner.{moved, lowered, movedCell, loweredCell}
+use Rattle.sheet.specs.declared.Cell.{Cell}
+use Rattle.sheet.specs.declared.Spot.{Spot}
+use Rattle.sheet.specs.declared.Refusal.the-variants.{Size, Coordinate}
+use Rattle.sheet.specs.declared.Refusal.the-variants as refusal
+use Rattle.sheet.proofs.Empty.{Both, Differ}
+use Rattle.line.specs.Draw.{lineAnswer}
+use Rattle.line.specs.Listing.{listAnswer}
+use Rattle.line.specs.Pen.{fresh, movedOn, beginAnswer, hasCell, nextAnswer, askAnswer}
+use Rattle.ring.specs.Answer.{semiAxes, ringAnswer, circleAnswer, ellipseAnswer}
+use Rattle.curve.specs.Rule.{blend, coordinateAt, pointAt}
+use Rattle.curve.specs.Draw.{allInLimits, joinedInLimits, curveAnswer}
+use Rattle.survey.specs.Cell.{isCellOf, findCell, toldFound}
+use Rattle.survey.specs.Metres.{findCoordinate, findLength, sound, inCells, toldInCells}
+use Rattle.survey.specs.declared.Found.the-variants.{At, NoCell}
+use Rattle.survey.specs.declared.Survey.{Survey}
+use Rattle.survey.specs.declared.Metres.{Metres}
+use Rattle.survey.specs.declared.Metres.the-variants as metres
+use Rattle.survey.specs.declared.InCells.{InCells}
+use Rattle.survey.specs.declared.InCells.the-variants as cells
+use Rattle.survey.proofs.Cells.{cell-is, nan-none}
+use Rattle.record.specs.Reading.{foundAt, readAt, readAnswer}
+use Rattle.record.specs.File.{readIn, readFrom, readAll, fileAnswer}
+use Rattle.record.specs.declared.types.Figure.the-variants.{Line}
+use Rattle.drawing.specs.Figure.{figureAnswer}
+use Rattle.drawing.specs.File.{contentsIn, contentsFrom, contents, drawFileAnswer}
+use Rattle.drawing.specs.Metres.{isRadius, areSemiAxes, cellsAnswer, metresAnswer}
+use Rattle.drawing.proofs.Nothing.{small, whole, home, zero-at, zero-long, line-cells, circle-cells, ellipse-cells}
+
+-- a cell, and one outside the limits
+abbrev origin : Cell
+origin = cellOf 0 0
+
+abbrev far : Cell
+far = cellOf 16384 0
+
+-- of sheet: a table, a sheet of one byte, a coordinate
+pub number-differs : Differ number Size Coordinate
+number-differs e = let z : _≡_ {A = ℕ} 1 2 = e in omega arith
+
+pub fits-differs : Differ (fits small) 1 0
+unfolding fits
+fits-differs e = true≢false e
+
+pub lift-differs : Differ moved (pos 0) (pos 16384)
+unfolding moved coordinate
+lift-differs e = let z : _≡_ {A = ℕ} 65536 0 = e in omega arith
+
+pub lower-differs : Differ lowered 65537 0
+unfolding lowered coordinate
+lower-differs e = let z : _≡_ {A = ℕ} 1 0 = ap natAbs e in omega arith
+
+pub lift-cell-differs : Differ movedCell origin far
+lift-cell-differs e = lift-differs (ap (λ (p : Spot). p .x) e)
+
+pub lower-cell-differs : Differ loweredCell (record { x = 65537; y = 0 }) (record { x = 0; y = 0 })
+lower-cell-differs e = lower-differs (ap (λ (c : Cell). c .x) e)
+
+pub in-limits-differs : Differ inLimits origin far
+unfolding inLimits coordinate
+in-limits-differs e = true≢false e
+
+pub mark-both : Both (markAnswer small 1) origin far
+unfolding markAnswer fits inLimits coordinate
+mark-both = record { done = refl; refused = refl }
+
+-- of line: a second end outside the limits; a pen before its only cell and after it
+pub line-both : Both (lineAnswer small 1 origin) origin far
+unfolding lineAnswer fits inLimits coordinate
+line-both = record { done = refl; refused = refl }
+
+pub list-both : Both (listAnswer 1 1 origin) origin far
+unfolding listAnswer inLimits coordinate
+list-both = record { done = refl; refused = refl }
+
+pub begin-both : Both (beginAnswer origin) origin far
+unfolding beginAnswer inLimits coordinate
+begin-both = record { done = refl; refused = refl }
+
+pub next-differs : Differ nextAnswer (fresh origin origin) (movedOn (fresh origin origin))
+unfolding nextAnswer hasCell inLimits coordinate
+next-differs e = let z : _≡_ {A = ℕ} 7 0 = ap (λ (a : Answer). length (a .values)) e in omega arith
+
+pub ask-differs : Differ askAnswer (fresh origin origin) (movedOn (fresh origin origin))
+unfolding askAnswer hasCell inLimits coordinate
+ask-differs e = let z : _≡_ {A = ℕ} 2 0 = ap (λ (a : Answer). length (a .values)) e in omega arith
+
+-- of ring: a radius too great, a semi-axis of 0
+pub circle-both : Both (circleAnswer small 1 origin) 0 16384
+unfolding ringAnswer fits inLimits coordinate
+circle-both = record { done = refl; refused = refl }
+
+pub ellipse-both : Both (ellipseAnswer small 1 origin 1) 1 0
+unfolding ringAnswer semiAxes semiAxis fits inLimits coordinate
+ellipse-both = record { done = refl; refused = refl }
+
+-- of curve: s above 6, a last point outside the limits
+pub curve-both : Both (curveAnswer small 1 (origin ∷ origin ∷ origin ∷ [])) 0 7
+unfolding curveAnswer allInLimits joinedInLimits fits inLimits coordinate all pointAt coordinateAt blend
+curve-both = record { done = refl; refused = refl }
+
+abbrev pointsTo : Cell → List Cell
+pointsTo p = origin ∷ origin ∷ p ∷ []
+
+pub points-differ : Differ (λ (p : Cell). allInLimits (pointsTo p) && joinedInLimits (pointsTo p) 0) origin far
+unfolding allInLimits joinedInLimits inLimits coordinate all pointAt coordinateAt blend
+points-differ e = true≢false e
+
+-- of survey: a survey whose cell size is 0.0; what is divided by it is not a number
+abbrev flat : Survey
+flat = record { east = whole 0; north = whole 0; size = whole 0 }
+
+pub sound-differs : Differ sound home flat
+unfolding sound ofInt lt
+sound-differs e = true≢false e
+
+-- where what is found at each of the two inputs is known, and one is told as 0 and the other as a refusal
+both-told : {I R : Type 0} (told : R → Answer) (find : I → R) (i j : I) (r s : R) → find i ≡ r → find j ≡ s
+    → eqb (told r .number) 0 ≡ true → eqb (told s .number) 0 ≡ false → Both (λ (k : I). told (find k)) i j
+both-told {I} {R} told find i j r s at none zero above =
+    record { done = ap (λ (q : R). eqb (told q .number) 0) at ∙ zero; refused = ap (λ (q : R). eqb (told q .number) 0) none ∙ above }
+
+pub find-cell-both : Both (λ (q : Float). toldFound (findCell q)) (whole 0) nan
+unfolding coordinate isCellOf ofInt le lt
+find-cell-both = both-told toldFound findCell (whole 0) nan (At (pos 0)) NoCell (cell-is (whole 0) (pos 0) tt tt) nan-none refl refl
+
+no-coordinate : findCoordinate (whole 0) (whole 0) (whole 0) ≡ NoCell
+unfolding sub div ofInt
+no-coordinate = nan-none
+
+pub find-coordinate-both : Both (λ (size : Float). toldFound (findCoordinate (whole 0) (whole 0) size)) (whole 1) (whole 0)
+find-coordinate-both = both-told toldFound (findCoordinate (whole 0) (whole 0)) (whole 1) (whole 0) (At (pos 0)) NoCell zero-at no-coordinate refl refl
+
+no-length : findLength (whole 0) (whole 0) ≡ NoCell
+unfolding div ofInt
+no-length = nan-none
+
+pub find-length-both : Both (λ (size : Float). toldFound (findLength (whole 0) size)) (whole 1) (whole 0)
+find-length-both = both-told toldFound (findLength (whole 0)) (whole 1) (whole 0) (At (pos 0)) NoCell zero-long no-length refl refl
+
+flat-refused : (f : Metres) → inCells flat f ≡ cells.Refused refusal.Survey
+unfolding inCells sound ofInt lt
+flat-refused f = refl
+
+-- of a figure in metres, by any telling of what it is in cells
+in-cells-both : (told : InCells → Answer) (f : Metres) (c : InCells) → inCells home f ≡ c
+    → eqb (told c .number) 0 ≡ true → eqb (told (cells.Refused refusal.Survey) .number) 0 ≡ false → Both (λ (s : Survey). told (inCells s f)) home flat
+in-cells-both told f c e = both-told told (λ (s : Survey). inCells s f) home flat c (cells.Refused refusal.Survey) e (flat-refused f)
+
+pub to-cells-both : Both (λ (s : Survey). toldInCells (inCells s (metres.Circle (whole 0) (whole 0) (whole 0)))) home flat
+to-cells-both = in-cells-both toldInCells _ _ circle-cells refl refl
+
+-- of record: a lone byte, read at its end and at its beginning; the empty file and a lone byte
+abbrev lone : List ℕ
+lone = 0 ∷ []
+
+pub read-both : Both (readAnswer lone) 1 0
+unfolding readAnswer foundAt
+read-both = record { done = refl; refused = refl }
+
+pub check-both : Both fileAnswer [] lone
+unfolding fileAnswer readAll readFrom readIn readAt foundAt
+check-both = record { done = refl; refused = refl }
+
+-- of drawing: a line of one cell and one with an end outside the limits; the same two files; the same two surveys
+pub figure-both : Both (figureAnswer small 1) (Line origin origin) (Line origin far)
+unfolding lineAnswer fits inLimits coordinate
+figure-both = record { done = refl; refused = refl }
+
+pub file-both : Both (drawFileAnswer small 1) [] lone
+unfolding drawFileAnswer contents contentsFrom contentsIn readAt foundAt fits
+file-both = record { done = refl; refused = refl }
+
+pub line-metres-both : Both (λ (s : Survey). metresAnswer small 1 s (metres.Line (whole 0) (whole 0) (whole 0) (whole 0))) home flat
+unfolding metresAnswer fits
+line-metres-both = in-cells-both (cellsAnswer small) _ _ line-cells refl refl
+
+pub circle-metres-both : Both (λ (s : Survey). metresAnswer small 1 s (metres.Circle (whole 0) (whole 0) (whole 0))) home flat
+unfolding metresAnswer fits isRadius
+circle-metres-both = in-cells-both (cellsAnswer small) _ _ circle-cells refl refl
+
+pub ellipse-metres-both : Both (λ (s : Survey). metresAnswer small 1 s (metres.Ellipse (whole 1) (whole 0) (whole 1) (whole 1))) home flat
+unfolding metresAnswer fits areSemiAxes semiAxes semiAxis
+ellipse-metres-both = in-cells-both (cellsAnswer small) _ _ ellipse-cells refl refl
