@@ -8,6 +8,7 @@
  *
  * Pointers must not be null, not even with length 0, must point to as many elements as the length after them says, and
  * must not overlap.
+ * For figures in metres the calling thread must round doubles to nearest and keep denormals (pw_floats_sound tells).
  * Threads: there is no shared state, so any number of threads may call at once on different buffers.
  * Only for 64-bit machines, where a size_t has 8 bytes. */
 #ifndef PISTONWOOL_H
@@ -95,8 +96,8 @@ uint32_t pw_file(uint8_t *sheet, size_t len, uint32_t width, uint32_t height,
 
 /* The same figures in metres, by a survey: the origins east and north, and the size of a cell.
  *
- * Their cells are those of a thread that rounds doubles to nearest and keeps denormals, as every program starts; in
- * another mode a position may be found in the next cell. The library does not change the mode. */
+ * Every program starts with doubles rounded to nearest and denormals kept. In another mode a position may be found in the
+ * next cell: the library computes in the mode of the thread that calls it, and does not change it. */
 
 /* Whether the calling thread computes doubles so: 1, or 0. For a controller to call once at its start, and again after
  * code that may have changed the mode. (Volatile: the sums are made when the program runs, whatever the compiler may assume.) */

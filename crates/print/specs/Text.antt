@@ -78,7 +78,8 @@ textOf file =
 
 -- `input cannot be read`, of which document 01 does not speak
 abbrev pub unreadable : List ℕ
-unreadable = (105 ∷ 110 ∷ 112 ∷ 117 ∷ 116 ∷ 32 ∷ 99 ∷ 97 ∷ 110 ∷ 110 ∷ 111 ∷ 116 ∷ 32 ∷ 98 ∷ 101 ∷ 32 ∷ 114 ∷ 101 ∷ 97 ∷ 100 ∷ []) ++ newline
+unreadable =
+    (105 ∷ 110 ∷ 112 ∷ 117 ∷ 116 ∷ 32 ∷ 99 ∷ 97 ∷ 110 ∷ 110 ∷ 111 ∷ 116 ∷ 32 ∷ 98 ∷ 101 ∷ 32 ∷ 114 ∷ 101 ∷ 97 ∷ 100 ∷ []) ++ newline
 
 -- Of an input that cannot be read to its end nothing is drawn.
 unfoldable pub replyOf : Bool → List ℕ → List ℕ
