@@ -11,8 +11,8 @@ int main(void) {
     uint8_t harbour[WIDTH * HEIGHT] = {0}, hill[WIDTH * HEIGHT] = {0};
     int32_t xs[32], ys[32];
     uint32_t cells = 0;
-    struct pw_pen pen;
-    int32_t x, y;
+    struct pw_pen pen = {0};
+    int32_t x = 0, y = 0;
 
     /* once at the start: figures in metres, of which this program has none, need this of the thread that draws them */
     if (!pw_floats_sound())

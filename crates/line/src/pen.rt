@@ -18,7 +18,7 @@ use sheet::Refusal;
 use sheet::lift_cell;
 use sheet::lower_cell;
 
-// The two ends, from the first named to the second, and how many cells were answered.
+// The two ends, from the first named to the second, and how many cells were answered; to C five numbers.
 #[repr(C)]
 pub struct Pen {
     pub from: Cell,

@@ -7,7 +7,7 @@ ghost use Rattle.sheet.specs.Drawn.{toldDrawn};
 ghost use Rattle.sheet.specs.Mark.{markAnswer};
 ghost use Rattle.sheet.specs.Inner.{moved, lowered, movedCell, unmovedCell, loweredCell};
 
-// A cell of the unlimited grid.
+// A cell of the unlimited grid. A pen that C lends holds two, so it has C's layout.
 #[repr(C)]
 pub struct Cell {
     pub x: i32,

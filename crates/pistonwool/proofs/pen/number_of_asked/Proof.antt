@@ -27,7 +27,11 @@ returns c =
     (ap askedNumber e, across ∙ ap (λ (r : Asked). askedCell r was .x) e, down ∙ ap (λ (r : Asked). askedCell r was .y) e)
 
 returns-2 : tie.Need-returns-2
-returns-2 c = search needs
+returns-2 c =
+    let a = c .before .before .args in
+    let was = cell (now (a .x)) (now (a .y)) in
+    let e = sym (c .enum-told .given .1) in
+    (ap askedNumber e, ap (λ (r : Asked). askedCell r was .x) e, ap (λ (r : Asked). askedCell r was .y) e)
 
 pub number-of-asked-spec : {M : Type 1} → statement M
 number-of-asked-spec = tie.close (tie.spec enum-known-reply enum-told returns returns-2)

@@ -67,7 +67,7 @@ vals = LL.vals T.the-type T′.the-laws
 abbrev val : Pen → Val
 val = LL.val T.the-type T′.the-laws
 
--- four numbers
+-- the four numbers that are passed
 abbrev Four : Type 0
 Four = ℤ × (ℤ × (ℤ × (ℤ × Unit {0})))
 
