@@ -101,6 +101,11 @@ pub ask-differs : Differ askAnswer (fresh origin origin) (movedOn (fresh origin 
 unfolding askAnswer hasCell inLimits coordinate
 ask-differs e = let z : _≡_ {A = ℕ} 2 0 = ap (λ (a : Answer). length (a .values)) e in omega arith
 
+-- and whether it has a cell left, which is what C is told by 1 and 0
+pub has-cell-differs : Differ hasCell (fresh origin origin) (movedOn (fresh origin origin))
+unfolding hasCell inLimits coordinate
+has-cell-differs e = true≢false e
+
 -- of ring: a radius too great, a semi-axis of 0
 pub circle-both : Both (circleAnswer small 1 origin) 0 16384
 unfolding ringAnswer fits inLimits coordinate
