@@ -1,6 +1,6 @@
 -- `pistonwool::pen::pw_pen_begin` meets its contract: a walk of its MIR, by hand. The borrow is opened, and the pen behind it is copied. `begin_after` is called on the copy and the four numbers, and of it only its contract is known.
 -- The pen that it returns is stored whole behind the reference, the borrow is closed at it, and its number is returned.
-use mathlib.Core.Path.{_≡_, refl, ap}
+use mathlib.Core.Path.{refl, ap}
 use Prim.Native.Nat.{ℕ, _<_, _^_}
 use mathlib.Core.List.{[], _∷_, List}
 use lib.IntN.{ℤ}
