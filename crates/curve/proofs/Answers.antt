@@ -2,13 +2,12 @@
 use Prim.Native.Nat.{ℕ, _+_, _^_, _≤_, _<_}
 use mathlib.Core.Path.{_≡_, refl, sym, ap, _∙_}
 use mathlib.Core.List.{List, [], _∷_}
-use mathlib.Core.Bool.{Bool, true, false, cond, _&&_, and-true}
+use mathlib.Core.Bool.{Bool, true, false, _&&_, and-true}
 use native.Mathlib.Omega.{arith}
 use borrow.Author.Tests.{le-leb, lt-leb}
 use lib.ListN.{length}
 use lib.Pow.{pow-pos}
-use Rattle.laws.specs.Below.{all}
-use Rattle.laws.proofs.Below.{any-as, all-as}
+use Rattle.laws.proofs.Below.{any-as}
 use Rattle.laws.proofs.Tests.{from-true}
 use Rattle.sheet.specs.Sheet.{fits, inLimits, cellOf, paint}
 use Rattle.sheet.specs.Reply.{done, refuse, settled}
@@ -20,9 +19,8 @@ use Rattle.sheet.proofs.Limits.{lift-in, limits-x, limits-y}
 use Rattle.sheet.proofs.Paint.{paint-as}
 use Rattle.line.specs.Rule.{onLine}
 use Rattle.curve.specs.Rule.{pointAt, onCurve}
-use Rattle.curve.specs.Draw.{allInLimits, joinedInLimits, curveAnswer}
+use Rattle.curve.specs.Draw.{allInLimits, curveAnswer}
 use Rattle.curve.specs.Inner.{jointAt, controlsOf, Bends, firstPieces}
-use Rattle.curve.proofs.Joining.{isIn}
 use Rattle.curve.proofs.Points.{coordinate-moved}
 
 -- three tests, each of which is one of the control points
@@ -65,30 +63,6 @@ module _ (a b c : Cell) (l : allInLimits (a ∷ b ∷ c ∷ []) ≡ true) where
   unfolding firstPieces onCurve
   pieces-are s d = any-as (2 ^ s) _ _ (λ i m t. onLine (point-is s i (omega arith) t) (point-is s (i + 1) (omega arith) t) d)
 
-  joined-are : (s : ℕ) → s ≤ 6 → all (2 ^ s + 1) (isIn (controlsOf a b c) s) ≡ joinedInLimits (a ∷ b ∷ c ∷ []) s
-  unfolding joinedInLimits
-  joined-are s m =
-      all-as (2 ^ s + 1) _ _ (λ i h. ap inLimits (point-is s i (omega arith)))
-      ∙ sym (ap (λ (t : Bool). cond t (all (2 ^ s + 1) (λ (i : ℕ). inLimits (pointAt (a ∷ b ∷ c ∷ []) (2 ^ s) i))) true) (le-leb s 6 m))
-
--- the test of all points, at each return of `points_in_limits`
-module _ (a b c : Cell) (s : ℕ) where
-  abbrev Tested : Bool → Type 0
-  Tested r = r ≡ (allInLimits (a ∷ b ∷ c ∷ []) && joinedInLimits (a ∷ b ∷ c ∷ []) s)
-
-  none-joined : 6 < s → joinedInLimits (a ∷ b ∷ c ∷ []) s ≡ true
-  unfolding joinedInLimits
-  none-joined l = simp (lt-leb s 6 l)
-
-  pub control-out : allInLimits (a ∷ b ∷ c ∷ []) ≡ false → Tested false
-  control-out e = simp e
-
-  pub no-points : allInLimits (a ∷ b ∷ c ∷ []) ≡ true → 6 < s → Tested true
-  no-points e l = simp (e, none-joined l)
-
-  pub points-tested : allInLimits (a ∷ b ∷ c ∷ []) ≡ true → s ≤ 6 → (r : Bool) → r ≡ all (2 ^ s + 1) (isIn (controlsOf a b c) s) → Tested r
-  points-tested e m r f = simp e (f ∙ joined-are a b c e s m)
-
 module _ (k : Shape) (ink : ℕ) (a b c : Cell) (s : ℕ) (sheet : List ℕ) where
   abbrev Left : List ℕ → Type 0
   Left t = t ≡ settled (curveAnswer k (length sheet) (a ∷ b ∷ c ∷ []) s) (paint k ink (onCurve (a ∷ b ∷ c ∷ []) s) sheet) sheet
@@ -103,16 +77,11 @@ module _ (k : Shape) (ink : ℕ) (a b c : Cell) (s : ℕ) (sheet : List ℕ) whe
 
   pub curve-pieces : fits k (length sheet) ≡ true → allInLimits (a ∷ b ∷ c ∷ []) ≡ true → 6 < s → (refuse Pieces ≡ curveAnswer k (length sheet) (a ∷ b ∷ c ∷ []) s) × Left sheet
   unfolding curveAnswer
-  curve-pieces e f g = simp (e, f, none-joined a b c s g, lt-leb s 6 g) (refl, refl)
+  curve-pieces e f g = simp (e, f, lt-leb s 6 g) (refl, refl)
 
-  pub curve-joined : fits k (length sheet) ≡ true → allInLimits (a ∷ b ∷ c ∷ []) ≡ true → s ≤ 6 → all (2 ^ s + 1) (isIn (controlsOf a b c) s) ≡ false
-      → (refuse Coordinate ≡ curveAnswer k (length sheet) (a ∷ b ∷ c ∷ []) s) × Left sheet
-  unfolding curveAnswer
-  curve-joined e f g h = simp (e, f, sym (joined-are a b c f s g) ∙ h) (refl, refl)
-
-  pub curve-done : fits k (length sheet) ≡ true → allInLimits (a ∷ b ∷ c ∷ []) ≡ true → s ≤ 6 → all (2 ^ s + 1) (isIn (controlsOf a b c) s) ≡ true
+  pub curve-done : fits k (length sheet) ≡ true → allInLimits (a ∷ b ∷ c ∷ []) ≡ true → s ≤ 6
       → (t : List ℕ) → t ≡ paint k ink (firstPieces (controlsOf a b c) s (2 ^ s)) sheet
       → (done [] ≡ curveAnswer k (length sheet) (a ∷ b ∷ c ∷ []) s) × Left t
   unfolding curveAnswer
-  curve-done e f g h t u =
-      simp (e, f, sym (joined-are a b c f s g) ∙ h, le-leb s 6 g) (refl, u ∙ paint-as k ink _ _ sheet (λ x y v w. pieces-are a b c f s (cellOf x y)))
+  curve-done e f g t u =
+      simp (e, f, le-leb s 6 g) (refl, u ∙ paint-as k ink _ _ sheet (λ x y v w. pieces-are a b c f s (cellOf x y)))

@@ -1,80 +1,90 @@
--- A joint lies between the least and the greatest control value: its weights come to n², and rounding does not pass a whole number.
-use Prim.Native.Nat.{ℕ, zero, suc, _+_, _-_, _*_, _/_, _^_, _≤_, _<_}
-use mathlib.Core.Path.{_≡_, refl, sym, ap, _∙_}
-use mathlib.Core.Bool.{true}
-use native.Mathlib.Nat.{le-div-iff-mul-le, div-lt-iff-lt-mul, mul-le-mul, mul-le-mul-left}
+-- No point of a curve leaves the limits, whatever the number of its control points: each coordinate lies between the least and the greatest control value.
+use Prim.Native.Nat.{ℕ, zero, suc, _-_, _^_, _≤_, _<_}
+use mathlib.Core.Path.{_≡_, refl, subst, ap, _∙_}
+use mathlib.Core.List.{List, [], _∷_, map}
+use mathlib.Core.Bool.{true, _&&_}
 use native.Mathlib.Omega.{arith}
-use borrow.Author.Tests.{le-leb}
+use lib.ListN.{length, getD, length-map}
+use lib.IntN.{ℤ, pos, negsuc}
+use lib.Signed.{_≤ℤ_}
 use lib.Pow.{pow-pos}
-use Rattle.laws.specs.Below.{all}
-use Rattle.laws.proofs.Below.{all-as}
+use Rattle.laws.proofs.Ints.{one-zero, from-≤ℤ, to-≤ℤ}
+use Rattle.laws.proofs.Tests.{and-l, and-r, is-true, from-true}
 use Rattle.sheet.specs.Sheet.{coordinate, inLimits}
 use Rattle.sheet.specs.Inner.{Moved, unmoved, unmovedCell}
-use Rattle.sheet.specs.declared.Spot.{Spot}
-use Rattle.sheet.proofs.Limits.{moved-within}
+use Rattle.sheet.specs.declared.Cell.{Cell}
+use Rattle.sheet.proofs.Limits.{limit-low, limit-high, limit-in, limits-x, limits-y, moved-in}
+use Rattle.curve.specs.Rule.{blend, rounded, degree, coordinateAt, pointAt}
+use Rattle.curve.specs.Draw.{allInLimits}
 use Rattle.curve.specs.Inner.{jointOf, jointAt, Bends}
 use Rattle.curve.specs.declared.Controls.{Controls}
-use Rattle.curve.proofs.Joining.{isIn}
+use Rattle.curve.proofs.Blend.{blend-one, blend-grows}
+use Rattle.curve.proofs.Round.{rounded-whole, rounded-grows}
+use Rattle.curve.proofs.Points.{pow-above, coordinate-moved}
 
--- the weights come to n², for k = n − i
-weights : (n i k : ℕ) → i + k ≡ n → k * k + 2 * (i * k) + i * i ≡ n * n
-weights n i k e = omega (arith, ap (λ (t : ℕ). t * i) e, ap (λ (t : ℕ). t * k) e, ap (λ (t : ℕ). n * t) e)
+-- no value of a list is below low or above high: the closest such numbers are its least and its greatest value
+abbrev pub Between : ℤ → ℤ → List ℤ → Type 0
+Between low high ps = (j : ℕ) → j < length ps → (low ≤ℤ getD ps j (pos 0)) × (getD ps j (pos 0) ≤ℤ high)
 
--- a mean of three numbers with these weights
-module _ (n i k p q r : ℕ) (e : i + k ≡ n) where
-  mean-least : (low : ℕ) → low ≤ p → low ≤ q → low ≤ r → low * (n * n) ≤ k * k * p + 2 * (i * k) * q + i * i * r
-  mean-least low a b c =
-      omega (arith, ap (λ (t : ℕ). low * t) (weights n i k e), mul-le-mul-left (k * k) a, mul-le-mul-left (i * k) b, mul-le-mul-left (i * i) c)
+-- so each coordinate of each point lies between the least and the greatest control value
+module _ (ps : List ℤ) (n i : ℕ) (l : 0 < length ps) (above : 0 < n) (m : i ≤ n) where
+  -- the coordinate that all control values equal to z would have is z
+  equal : (z : ℤ) → rounded (blend (degree ps) n i (λ (j : ℕ). z)) (n ^ degree ps) ≡ z
+  equal z = ap (λ (w : ℤ). rounded w (n ^ degree ps)) (blend-one (degree ps) n i z m) ∙ rounded-whole z (n ^ degree ps) (pow-above n (degree ps) above)
 
-  mean-most : (high : ℕ) → p ≤ high → q ≤ high → r ≤ high → k * k * p + 2 * (i * k) * q + i * i * r ≤ high * (n * n)
-  mean-most high a b c =
-      omega (arith, ap (λ (t : ℕ). high * t) (weights n i k e), mul-le-mul-left (k * k) a, mul-le-mul-left (i * k) b, mul-le-mul-left (i * i) c)
+  pub coordinate-between : (low high : ℤ) → Between low high ps → (low ≤ℤ coordinateAt ps n i) × (coordinateAt ps n i ≤ℤ high)
+  unfolding coordinateAt
+  coordinate-between low high h = (
+    subst (λ (z : ℤ). z ≤ℤ coordinateAt ps n i) (equal low) (grows (λ (j : ℕ). low) values (λ j k. h j (omega arith) .0)),
+    subst (λ (z : ℤ). coordinateAt ps n i ≤ℤ z) (equal high) (grows values (λ (j : ℕ). high) (λ j k. h j (omega arith) .1)),
+  )
+    where
+      values : ℕ → ℤ
+      values j = getD ps j (pos 0)
 
--- N over m, rounded
-rounded-least : (N m low : ℕ) → 0 < m → low * m ≤ N → low ≤ (2 * N + m) / (2 * m)
-rounded-least N m low l h = le-div-iff-mul-le {k = 2 * m} {x = low} {y = 2 * N + m} (omega arith) .1 (omega arith)
+      grows : (P R : ℕ → ℤ) → ((j : ℕ) → j ≤ degree ps → P j ≤ℤ R j)
+          → rounded (blend (degree ps) n i P) (n ^ degree ps) ≤ℤ rounded (blend (degree ps) n i R) (n ^ degree ps)
+      grows P R f = rounded-grows _ _ (n ^ degree ps) (pow-above n (degree ps) above) (blend-grows (degree ps) n i P R f)
 
-rounded-most : (N m high : ℕ) → 0 < m → N ≤ high * m → (2 * N + m) / (2 * m) ≤ high
-rounded-most N m high l h =
-    let u : (2 * N + m) / (2 * m) < high + 1 = div-lt-iff-lt-mul {k = 2 * m} {x = 2 * N + m} {y = high + 1} (omega arith) .1 (omega arith) in
-    omega arith
+  -- within the limits, where all control values are
+  coordinate-in : ((j : ℕ) → j < length ps → coordinate (getD ps j (pos 0)) ≡ true) → coordinate (coordinateAt ps n i) ≡ true
+  coordinate-in h =
+      let z = coordinateAt ps n i in
+      let b = coordinate-between (negsuc 16383) (pos 16383) (λ j k. limits (getD ps j (pos 0)) (h j k)) in
+      limit-in z (omega (arith, one-zero z, from-≤ℤ (negsuc 16383) z (b .0))) (omega (arith, one-zero z, from-≤ℤ z (pos 16383) (b .1)))
+    where
+      limits : (z : ℤ) → coordinate z ≡ true → (negsuc 16383 ≤ℤ z) × (z ≤ℤ pos 16383)
+      limits z e =
+          (to-≤ℤ (negsuc 16383) z (omega (arith, limit-low z e, one-zero z)), to-≤ℤ z (pos 16383) (omega (arith, limit-high z e, one-zero z)))
 
-joint-least : (p q r n i low : ℕ) → 0 < n * n → i ≤ n → low ≤ p → low ≤ q → low ≤ r → low ≤ jointOf p q r n i
-joint-least p q r n i low l m a b c = rounded-least _ (n * n) low l (mean-least n i (n - i) p q r (omega arith) low a b c)
+-- one coordinate of each control point, where all are within the limits
+each-in : (of : Cell → ℤ) → ((c : Cell) → inLimits c ≡ true → coordinate (of c) ≡ true)
+    → (ps : List Cell) (j : ℕ) → allInLimits ps ≡ true → j < length ps → coordinate (getD (map of ps) j (pos 0)) ≡ true
+unfolding allInLimits
+each-in of f [] j e h = absurd (omega arith)
+each-in of f (c ∷ ps) zero e h = f c (is-true (inLimits c) (and-l (inLimits c) (allInLimits ps) (from-true _ e)))
+each-in of f (c ∷ ps) (suc j) e h = each-in of f ps j (is-true (allInLimits ps) (and-r (inLimits c) (allInLimits ps) (from-true _ e))) (omega arith)
 
-joint-most : (p q r n i high : ℕ) → 0 < n * n → i ≤ n → p ≤ high → q ≤ high → r ≤ high → jointOf p q r n i ≤ high
-joint-most p q r n i high l m a b c = rounded-most _ (n * n) high l (mean-most n i (n - i) p q r (omega arith) high a b c)
-
--- so a joint of moved coordinates is one
-joint-moved : (p q r s i : ℕ) → Moved p → Moved q → Moved r → i ≤ 2 ^ s → Moved (jointOf p q r (2 ^ s) i)
-joint-moved p q r s i a b c m =
-    let l : 0 < 2 ^ s * 2 ^ s = mul-le-mul {n₁ = 1} {m₁ = 1} {n₂ = 2 ^ s} {m₂ = 2 ^ s} (pow-pos s) (pow-pos s) in
-    record {
-      least = joint-least p q r (2 ^ s) i 49152 l m (a .least) (b .least) (c .least);
-      most = joint-most p q r (2 ^ s) i 81919 l m (a .most) (b .most) (c .most);
-    }
-
--- a spot of two moved coordinates is within the limits
-pub spot-in : (p : Spot) → Moved (p .x) → Moved (p .y) → inLimits (unmovedCell p) ≡ true
-unfolding inLimits
-spot-in p a b = simp (coordinate-in (p .x) a, coordinate-in (p .y) b)
+-- a curve with its control points within the limits has all its points within them
+pub point-in-limits : (ps : List Cell) (n i : ℕ) → 0 < length ps → 0 < n → i ≤ n → allInLimits ps ≡ true → inLimits (pointAt ps n i) ≡ true
+unfolding inLimits pointAt
+point-in-limits ps n i l above m e = λ t. by (λ c. c .x) limits-x t && by (λ c. c .y) limits-y t
   where
-    coordinate-in : (m : ℕ) → Moved m → coordinate (unmoved m) ≡ true
-    coordinate-in m h = sym (moved-within m) ∙ simp (le-leb 49152 m (h .least), le-leb m 81919 (h .most))
+    by : (of : Cell → ℤ) → ((c : Cell) → inLimits c ≡ true → coordinate (of c) ≡ true) → coordinate (coordinateAt (map of ps) n i) ≡ true
+    by of f = coordinate-in (map of ps) n i (omega (arith, length-map ps of)) above m (λ j h. each-in of f ps j e (omega (arith, length-map ps of)))
 
--- and so are all joined points
-all-true : (n : ℕ) → all n (λ (i : ℕ). true) ≡ true
-unfolding all
-all-true zero = refl
-all-true (suc n) = simp (all-true n)
-
-pub joints-in : (c : Controls) (s : ℕ) → Bends c → all (2 ^ s + 1) (isIn c s) ≡ true
-joints-in c s h =
-    all-as (2 ^ s + 1) (isIn c s) (λ (i : ℕ). true) (λ i l. spot-in (jointAt c s i) (x-in i (omega arith)) (y-in i (omega arith)))
-    ∙ all-true (2 ^ s + 1)
+-- and so have the points as the code finds them
+pub joint-in : (c : Controls) (s i : ℕ) → Bends c → i ≤ 2 ^ s → inLimits (unmovedCell (jointAt c s i)) ≡ true
+unfolding inLimits jointAt
+joint-in c s i h m = λ t. by (c .x0) (c .x1) (c .x2) (h .x0-in) (h .x1-in) (h .x2-in) t && by (c .y0) (c .y1) (c .y2) (h .y0-in) (h .y1-in) (h .y2-in) t
   where
-    x-in : (i : ℕ) → i ≤ 2 ^ s → Moved (jointAt c s i .x)
-    x-in i m = unfold jointAt in joint-moved (c .x0) (c .x1) (c .x2) s i (h .x0-in) (h .x1-in) (h .x2-in) m
-
-    y-in : (i : ℕ) → i ≤ 2 ^ s → Moved (jointAt c s i .y)
-    y-in i m = unfold jointAt in joint-moved (c .y0) (c .y1) (c .y2) s i (h .y0-in) (h .y1-in) (h .y2-in) m
+    by : (p q r : ℕ) → Moved p → Moved q → Moved r → coordinate (unmoved (jointOf p q r (2 ^ s) i)) ≡ true
+    by p q r a b d =
+        subst (λ (z : ℤ). coordinate z ≡ true) (coordinate-moved (2 ^ s) i (unmoved p) (unmoved q) (unmoved r) p q r (pow-pos s) m refl refl refl)
+        (coordinate-in (unmoved p ∷ unmoved q ∷ unmoved r ∷ []) (2 ^ s) i (omega arith) (pow-pos s) m each)
+      where
+        each : (j : ℕ) → j < 3 → coordinate (getD (unmoved p ∷ unmoved q ∷ unmoved r ∷ []) j (pos 0)) ≡ true
+        each zero k = moved-in p a
+        each (suc zero) k = moved-in q b
+        each (suc (suc zero)) k = moved-in r d
+        each (suc (suc (suc j))) k = absurd (omega arith)

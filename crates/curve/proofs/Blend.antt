@@ -1,11 +1,12 @@
--- The laws of `blend`, for any degree: what it is of moved values, at the ends, and backwards.
+-- The laws of `blend`, for any degree: what it is of moved values, of equal ones and of greater ones, at the ends, and backwards.
 use Prim.Native.Nat.{ℕ, zero, suc, _+_, _-_, _*_, _^_, _≤_}
 use mathlib.Core.Path.{_≡_, ap, ap₂, _∙_}
-use native.Mathlib.Nat.{pow-zero, pow-succ'}
+use native.Mathlib.Nat.{pow-zero, pow-succ', mul-le-mul-left}
 use native.Mathlib.Omega.{arith}
 use lib.IntN.{ℤ, pos, _+ℤ_, _*ℤ_, +ℤ-comm}
+use lib.Signed.{_≤ℤ_}
 use Rattle.laws.proofs.Parts.{up, dn}
-use Rattle.laws.proofs.Ints.{up-+, dn-+, up-*, dn-*, to-≡ℤ}
+use Rattle.laws.proofs.Ints.{up-+, dn-+, up-*, dn-*, from-≤ℤ, to-≤ℤ, to-≡ℤ}
 use Rattle.curve.specs.Rule.{blend}
 
 -- a × z + b × w, of z that is p less q and w that is r less t
@@ -61,6 +62,28 @@ up-of m z = omega (arith, up-* (pos m) z)
 
 dn-of : (m : ℕ) (z : ℤ) → dn (pos m *ℤ z) ≡ m * dn z
 dn-of m z = omega (arith, dn-* (pos m) z)
+
+-- of one value at each place it is n^d times that
+pub blend-one : (d n i : ℕ) (z : ℤ) → i ≤ n → blend d n i (λ (j : ℕ). z) ≡ pos (n ^ d) *ℤ z
+blend-one d n i z l =
+    to-≡ℤ (blend d n i (λ (j : ℕ). z)) (pos (n ^ d) *ℤ z)
+    (omega (arith, blend-moved d n i (λ (j : ℕ). z) (λ (j : ℕ). up z) (dn z) l (λ j m. omega arith), blend-same d n i (up z) l, up-of (n ^ d) z, dn-of (n ^ d) z))
+
+-- greater values make a greater blend
+mix-grows : (a b : ℕ) (z w u v : ℤ) → z ≤ℤ u → w ≤ℤ v → (pos a *ℤ z +ℤ pos b *ℤ w) ≤ℤ (pos a *ℤ u +ℤ pos b *ℤ v)
+mix-grows a b z w u v h k =
+    let e = mixed a b z w (up z) (dn z) (up w) (dn w) (omega arith) (omega arith) in
+    let f = mixed a b u v (up u) (dn u) (up v) (dn v) (omega arith) (omega arith) in
+    to-≤ℤ (pos a *ℤ z +ℤ pos b *ℤ w) (pos a *ℤ u +ℤ pos b *ℤ v)
+    (omega (arith, mul-le-mul-left a (from-≤ℤ z u h), mul-le-mul-left b (from-≤ℤ w v k)))
+
+pub blend-grows : (d n i : ℕ) (P R : ℕ → ℤ) → ((j : ℕ) → j ≤ d → P j ≤ℤ R j) → blend d n i P ≤ℤ blend d n i R
+unfolding blend
+blend-grows zero n i P R h = h 0 (omega arith)
+blend-grows (suc d) n i P R h =
+    mix-grows (n - i) i (blend d n i P) (blend d n i (λ (j : ℕ). P (suc j))) (blend d n i R) (blend d n i (λ (j : ℕ). R (suc j)))
+    (blend-grows d n i P R (λ j l. h j (omega arith)))
+    (blend-grows d n i (λ (j : ℕ). P (suc j)) (λ (j : ℕ). R (suc j)) (λ j l. h (suc j) (omega arith)))
 
 -- the first value at i = 0, the last at i = n
 once : (n : ℕ) (z : ℤ) → z ≡ pos (n ^ 0) *ℤ z

@@ -2,13 +2,12 @@
 use Prim.Native.Nat.{ℕ, _+_, _^_, _≤_, _<_}
 use mathlib.Core.Path.{_≡_, refl, sym, ap, _∙_}
 use mathlib.Core.List.{List}
-use mathlib.Core.Bool.{Bool, true, false, _||_}
+use mathlib.Core.Bool.{false, _||_}
 use native.Mathlib.Omega.{arith}
 use lib.ListN.{length}
-use Rattle.laws.specs.Below.{any, all}
-use Rattle.laws.proofs.Below.{any-more, all→}
-use Rattle.laws.proofs.Tests.{is-true, from-true}
-use Rattle.sheet.specs.Sheet.{cellOf, inLimits, paint}
+use Rattle.laws.specs.Below.{any}
+use Rattle.laws.proofs.Below.{any-more}
+use Rattle.sheet.specs.Sheet.{cellOf, paint}
 use Rattle.sheet.specs.Inner.{Sheet, unmovedCell}
 use Rattle.sheet.specs.declared.Cell.{Cell}
 use Rattle.sheet.specs.declared.Shape.{Shape}
@@ -17,13 +16,6 @@ use Rattle.sheet.proofs.Paint.{paint-as, paint-none, paint-then, paint-length}
 use Rattle.line.specs.Rule.{onLine}
 use Rattle.curve.specs.Inner.{jointAt, firstPieces}
 use Rattle.curve.specs.declared.Controls.{Controls}
-
--- whether the ith point is within the limits
-abbrev pub isIn : Controls → ℕ → ℕ → Bool
-isIn c s i = inLimits (unmovedCell (jointAt c s i))
-
-pub point-in : (c : Controls) (s n i : ℕ) → all n (isIn c s) ≡ true → i < n → inLimits (unmovedCell (jointAt c s i)) ≡ true
-point-in c s n i e l = is-true (isIn c s i) (all→ n (isIn c s) (from-true (all n (isIn c s)) e) i l)
 
 pub record Joining (k : Shape) (ink : ℕ) (c : Controls) (s : ℕ) (sheet₀ sheet : List ℕ) (from : Spot) (i : ℕ) : Type 0 where
   pub low : i ≤ 2 ^ s

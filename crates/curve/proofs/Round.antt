@@ -1,11 +1,13 @@
--- Rounding: the floor is the one whole number between its bounds, also below zero.
+-- Rounding: the floor is the one whole number between its bounds, also below zero, and greater for a greater number.
 use Prim.Native.Nat.{ℕ, _+_, _*_, _/_, _≤_, _<_}
 use mathlib.Core.Path.{_≡_, sym, ap}
+use native.Mathlib.Nat.{le-div-iff-mul-le}
 use native.Mathlib.Omega.{arith}
 use lib.IntN.{ℤ, pos, negsuc, negℤ, _+ℤ_, _-ℤ_, _*ℤ_}
+use lib.Signed.{_≤ℤ_}
 use Rattle.laws.proofs.Parts.{up, dn}
 use Rattle.laws.proofs.Floor.{div-is, div-low, div-high}
-use Rattle.laws.proofs.Ints.{up-+, dn-+, up-*, dn-*, up-neg, dn-neg}
+use Rattle.laws.proofs.Ints.{up-+, dn-+, up-*, dn-*, up-neg, dn-neg, from-≤ℤ, to-≤ℤ}
 use Rattle.curve.specs.Rule.{floor, rounded}
 
 -- q × d ≤ z < (q + 1) × d makes the floor of z / d
@@ -42,3 +44,19 @@ rounded-whole z m l =
     let t = twice-parts (pos m *ℤ z) m in
     floor-is (pos 2 *ℤ (pos m *ℤ z) +ℤ pos m) (2 * m) z
     (omega (arith, up-* (pos m) z, dn-* (pos m) z)) (omega (arith, up-* (pos m) z, dn-* (pos m) z))
+
+-- a greater number is rounded to a greater one
+div-grows : (a b d : ℕ) → 0 < d → a ≤ b → a / d ≤ b / d
+div-grows a b d l h = le-div-iff-mul-le {k = d} {x = a / d} {y = b} l .1 (omega (arith, div-low a d))
+
+floor-grows : (z w : ℤ) (d : ℕ) → 0 < d → z ≤ℤ w → floor z d ≤ℤ floor w d
+floor-grows (pos a) (pos b) d l h = to-≤ℤ (pos (a / d)) (pos (b / d)) (omega (arith, div-grows a b d l (omega (arith, from-≤ℤ (pos a) (pos b) h))))
+floor-grows (pos a) (negsuc b) d l h = absurd (h .le)
+floor-grows (negsuc a) (pos b) d l h = record { le = tt }
+floor-grows (negsuc a) (negsuc b) d l h =
+    to-≤ℤ (negsuc (a / d)) (negsuc (b / d)) (omega (arith, div-grows b a d l (omega (arith, from-≤ℤ (negsuc a) (negsuc b) h))))
+
+pub rounded-grows : (N M : ℤ) (m : ℕ) → 0 < m → N ≤ℤ M → rounded N m ≤ℤ rounded M m
+rounded-grows N M m l h =
+    floor-grows (pos 2 *ℤ N +ℤ pos m) (pos 2 *ℤ M +ℤ pos m) (2 * m) (omega arith)
+    (to-≤ℤ (pos 2 *ℤ N +ℤ pos m) (pos 2 *ℤ M +ℤ pos m) (omega (arith, twice-parts N m, twice-parts M m, from-≤ℤ N M h)))

@@ -1,17 +1,16 @@
 // Quadratic Bézier curves: the points of each, and the lines that join them.
 ghost use mathlib.Core.Path.{_≡_};
-ghost use mathlib.Core.Bool.{true, _&&_};
+ghost use mathlib.Core.Bool.{true};
 ghost use mathlib.Core.List.{[], _∷_};
-ghost use Prim.Native.Nat.{ℕ, _+_, _^_, _≤_};
+ghost use Prim.Native.Nat.{_^_, _≤_};
 ghost use lib.ListN.{length};
-ghost use Rattle.laws.specs.Below.{all};
 ghost use Rattle.sheet.specs.Sheet.{inLimits, paint};
 ghost use Rattle.sheet.specs.Reply.{settled};
 ghost use Rattle.sheet.specs.Drawn.{toldDrawn};
 ghost use Rattle.sheet.specs.Inner.{Moved, Sheet, unmovedCell};
 ghost use Rattle.line.specs.Rule.{onLine};
 ghost use Rattle.curve.specs.Rule.{onCurve};
-ghost use Rattle.curve.specs.Draw.{allInLimits, joinedInLimits, curveAnswer};
+ghost use Rattle.curve.specs.Draw.{allInLimits, curveAnswer};
 ghost use Rattle.curve.specs.Inner.{jointOf, jointAt, Bends, controlsOf, firstPieces};
 use sheet::Cell;
 use sheet::Drawn;
@@ -59,35 +58,6 @@ fn joint_at(controls: Controls, s: u32, i: u32) -> Spot
     }
 }
 
-// Whether a spot stands for a cell within the limits.
-fn is_within(spot: Spot) -> bool
-    ensures { λ r. ⌜ r ≡ inLimits (unmovedCell spot) ⌝ }
-{
-    let x = spot.x;
-    let y = spot.y;
-    ((49152 <= x) & (x <= 81919)) & ((49152 <= y) & (y <= 81919))
-}
-
-// Whether every joined point is within the limits: each lies between the least and the greatest control value, so the control points are enough.
-fn all_within(controls: Controls, s: u32) -> bool
-    requires { ⌜ Bends controls × (s ≤ 6) ⌝ }
-    ensures { λ r. ⌜ r ≡ all (2 ^ s + 1) (λ (i : ℕ). inLimits (unmovedCell (jointAt controls s i))) ⌝ }
-{
-    let a = Spot {
-        x: controls.x0,
-        y: controls.y0,
-    };
-    let b = Spot {
-        x: controls.x1,
-        y: controls.y1,
-    };
-    let c = Spot {
-        x: controls.x2,
-        y: controls.y2,
-    };
-    is_within(a) & (is_within(b) & is_within(c))
-}
-
 // Draws the line between two points within the limits.
 fn piece(sheet: &mut [u8], shape: Shape, ink: u8, from: Spot, to: Spot)
     requires { ⌜ Sheet shape (now sheet) ⌝ }
@@ -106,7 +76,6 @@ fn piece(sheet: &mut [u8], shape: Shape, ink: u8, from: Spot, to: Spot)
 // Draws the lines between each point and the next.
 fn join(sheet: &mut [u8], shape: Shape, ink: u8, controls: Controls, s: u32)
     requires { ⌜ Sheet shape (now sheet) × Bends controls × (s ≤ 6) ⌝ }
-    requires { ⌜ all (2 ^ s + 1) (λ (i : ℕ). inLimits (unmovedCell (jointAt controls s i))) ≡ true ⌝ }
     ensures { λ r. ⌜ now (sheet .exit) ≡ paint shape ink (firstPieces controls s (2 ^ s)) (now (sheet .entry)) ⌝ }
 {
     let n = pieces(s);
@@ -144,20 +113,6 @@ fn controls_of(p0: Cell, p1: Cell, p2: Cell) -> Controls
     }
 }
 
-// Whether the control points and the joined points of a curve are within the limits; with s above 6 none are joined.
-pub fn points_in_limits(p0: Cell, p1: Cell, p2: Cell, s: u32) -> bool
-    ensures { λ r. ⌜ r ≡ (allInLimits (p0 ∷ p1 ∷ p2 ∷ []) && joinedInLimits (p0 ∷ p1 ∷ p2 ∷ []) s) ⌝ }
-{
-    if !in_limits(p0, p1, p2) {
-        return false;
-    }
-    if s <= 6 {
-        let controls = controls_of(p0, p1, p2);
-        return all_within(controls, s);
-    }
-    true
-}
-
 // Draws the curve with these control points, split into 2^s pieces.
 pub fn draw_curve(
     sheet: &mut [u8],
@@ -181,9 +136,6 @@ pub fn draw_curve(
         return Drawn::Refused(Refusal::Pieces);
     }
     let controls = controls_of(p0, p1, p2);
-    if !all_within(controls, s) {
-        return Drawn::Refused(Refusal::Coordinate);
-    }
     join(sheet, shape, ink, controls, s);
     Drawn::Done
 }

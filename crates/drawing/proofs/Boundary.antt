@@ -28,11 +28,11 @@ use Rattle.survey.specs.declared.Metres.the-variants as metres
 use Rattle.survey.specs.declared.InCells.{InCells}
 use Rattle.survey.specs.declared.InCells.the-variants as cells
 use Rattle.record.specs.Reading.{refuseAt}
-use Rattle.record.specs.File.{Contents, holds, contentsAnswer}
+use Rattle.record.specs.File.{Contents, holds, readAll, contentsAnswer, fileAnswer}
 use Rattle.record.specs.declared.types.Figure.{Figure}
 use Rattle.record.specs.declared.types.Record.{Record}
 use Rattle.drawing.specs.Figure.{onFigure}
-use Rattle.drawing.specs.File.{contents, recordsOf, paintAll, drawFileAnswer}
+use Rattle.drawing.specs.File.{recordsOf, paintAll, drawFileAnswer}
 use Rattle.drawing.specs.Metres.{cellsAnswer, metresAnswer, onCells, onMetres}
 use Rattle.drawing.specs.Boundary.{SameFigure, Named, AllNamed, SameBoundary, InTurn}
 
@@ -141,14 +141,14 @@ module _ (k : Shape) where
       ∙ same-in-turn rest more (paint k (q .ink) (onFigure (q .figure)) s) h
 
   -- what a file that none refuses is told and leaves
-  module _ (file lent : List ℕ) (rs : List Record) (e : contents file ≡ holds rs) where
+  module _ (file lent : List ℕ) (rs : List Record) (e : readAll file ≡ holds rs) where
     told-by : drawFileAnswer k (length lent) file ≡ cond (fits k (length lent)) (done (pos (length rs) ∷ [])) (refuseAt Size 0)
-    unfolding drawFileAnswer
+    unfolding drawFileAnswer fileAnswer
     told-by = ap (λ (c : Contents). cond (fits k (length lent)) (contentsAnswer c) (refuseAt Size 0)) e
 
-    left-by : settled (drawFileAnswer k (length lent) file) (paintAll k (recordsOf (contents file)) lent) lent
+    left-by : settled (drawFileAnswer k (length lent) file) (paintAll k (recordsOf (readAll file)) lent) lent
         ≡ cond (fits k (length lent)) (paintAll k rs lent) lent
-    unfolding drawFileAnswer
+    unfolding drawFileAnswer fileAnswer
     left-by =
         (λ i. settled (cond (fits k (length lent)) (contentsAnswer (e i)) (refuseAt Size 0)) (paintAll k (recordsOf (e i)) lent) lent)
         ∙ by (fits k (length lent))
@@ -158,11 +158,11 @@ module _ (k : Shape) where
         by false = refl
 
   -- Two files, none of whose records is refused, on sheets that were alike:
-  module _ (file other lent : List ℕ) (rs qs : List Record) (e : contents file ≡ holds rs) (f : contents other ≡ holds qs) where
+  module _ (file other lent : List ℕ) (rs qs : List Record) (e : readAll file ≡ holds rs) (f : readAll other ≡ holds qs) where
     -- where painting their records comes to the same, the bytes left are the same,
     pub files-left : paintAll k rs lent ≡ paintAll k qs lent
-        → settled (drawFileAnswer k (length lent) file) (paintAll k (recordsOf (contents file)) lent) lent
-        ≡ settled (drawFileAnswer k (length lent) other) (paintAll k (recordsOf (contents other)) lent) lent
+        → settled (drawFileAnswer k (length lent) file) (paintAll k (recordsOf (readAll file)) lent) lent
+        ≡ settled (drawFileAnswer k (length lent) other) (paintAll k (recordsOf (readAll other)) lent) lent
     files-left p = left-by file lent rs e ∙ ap (λ (d : List ℕ). cond (fits k (length lent)) d lent) p ∙ sym (left-by other lent qs f)
 
     -- and with as many records the answers are equal.

@@ -8,13 +8,14 @@ use Rattle.sheet.specs.Sheet.{fits}
 use Rattle.sheet.specs.Reply.{done}
 use Rattle.sheet.specs.declared.Shape.{Shape}
 use Rattle.record.specs.Reading.{foundAt, readAt}
-use Rattle.drawing.specs.File.{contentsIn, contentsFrom, contents, recordsOf, paintAll, drawFileAnswer}
+use Rattle.record.specs.File.{readIn, readFrom, readAll, fileAnswer}
+use Rattle.drawing.specs.File.{recordsOf, paintAll, drawFileAnswer}
 
 pub empty-file : (k : Shape) (n : ℕ) → fits k n ≡ true → drawFileAnswer k n [] ≡ done (pos 0 ∷ [])
-unfolding drawFileAnswer contents contentsFrom contentsIn readAt foundAt
+unfolding drawFileAnswer fileAnswer readAll readFrom readIn readAt foundAt
 empty-file k n e = simp e
 
 -- and leaves the sheet as it was
-pub empty-picture : (k : Shape) (s : List ℕ) → paintAll k (recordsOf (contents [])) s ≡ s
-unfolding paintAll contents contentsFrom contentsIn readAt foundAt
+pub empty-picture : (k : Shape) (s : List ℕ) → paintAll k (recordsOf (readAll [])) s ≡ s
+unfolding paintAll readAll readFrom readIn readAt foundAt
 empty-picture k s = refl

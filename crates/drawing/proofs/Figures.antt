@@ -9,13 +9,12 @@ use Rattle.sheet.specs.Reply.{Answer, settled}
 use Rattle.sheet.specs.declared.Shape.{Shape}
 use Rattle.line.proofs.Answers.{line-drawn}
 use Rattle.ring.specs.Answer.{semiAxes, ringAnswer}
-use Rattle.curve.specs.Draw.{curveAnswer}
+use Rattle.curve.specs.Draw.{allInLimits, curveAnswer}
 use Rattle.record.specs.declared.types.Figure.{Figure}
 use Rattle.record.specs.declared.types.Figure.the-variants.{Line, Circle, Ellipse, Curve}
 use Rattle.record.proofs.Stands.{Sound}
 use Rattle.drawing.specs.Shown.{toldShown}
 use Rattle.drawing.specs.Figure.{onFigure, figureAnswer}
-use Rattle.drawing.specs.File.{joins}
 use Rattle.drawing.specs.declared.Shown.{Shown}
 
 -- the sheet after drawing a figure on it
@@ -29,12 +28,10 @@ pub by-kind : (k : Shape) (ink : ℕ) (s t : List ℕ) (figure f : Figure) (r : 
 by-kind k ink s t figure f r a e told h =
     (told ∙ h .0 ∙ ap (figureAnswer k (length s)) (sym e), h .1 ∙ ap (after k ink s) (sym e))
 
--- a figure within the limits whose points are too is drawn on a sheet that fits
-pub figure-drawn : (k : Shape) (n : ℕ) (f : Figure) (drawn before : List ℕ) → fits k n ≡ true → Sound f → joins f ≡ true
-    → settled (figureAnswer k n f) drawn before ≡ drawn
-unfolding ringAnswer semiAxes curveAnswer
-figure-drawn k n (Line a b) drawn before e l j = line-drawn k n a b drawn before e (l .0) (l .1)
-figure-drawn k n (Circle c r) drawn before e l j = simp (e, l .0, l .1)
-figure-drawn k n (Ellipse c a b) drawn before e l j =
-    simp (e, l .0, l .1, l .2)
-figure-drawn k n (Curve p0 p1 p2 s) drawn before e l j = simp (e, j, l .3)
+-- a figure within the limits is drawn on a sheet that fits
+pub figure-drawn : (k : Shape) (n : ℕ) (f : Figure) (drawn before : List ℕ) → fits k n ≡ true → Sound f → settled (figureAnswer k n f) drawn before ≡ drawn
+unfolding ringAnswer semiAxes curveAnswer allInLimits
+figure-drawn k n (Line a b) drawn before e l = line-drawn k n a b drawn before e (l .0) (l .1)
+figure-drawn k n (Circle c r) drawn before e l = simp (e, l .0, l .1)
+figure-drawn k n (Ellipse c a b) drawn before e l = simp (e, l .0, l .1, l .2)
+figure-drawn k n (Curve p0 p1 p2 s) drawn before e l = simp (e, l .0, l .1, l .2, l .3)

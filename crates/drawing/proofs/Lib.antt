@@ -1,5 +1,4 @@
 pub mod Boundary
-mod Contents
 pub mod Examples
 mod Figures
 pub mod InMetres

@@ -7,7 +7,7 @@ use native.Mathlib.Omega.{arith}
 use lib.ListN.{getD}
 use lib.IntN.{ℤ, pos, natAbs}
 use lib.Ieee.{Float, binary64, ofInt, sub, div, le, lt}
-use Rattle.laws.specs.Below.{all, any}
+use Rattle.laws.specs.Below.{any}
 use Rattle.sheet.specs.Sheet.{fits, onSheet, cellAt, held, byPlace, paint, coordinate, inLimits, isCell, cellOf, semiAxis}
 use Rattle.sheet.specs.Reply.{unless, settled}
 use Rattle.sheet.specs.declared.Shape.{Shape}
@@ -18,7 +18,7 @@ use Rattle.line.specs.Listing.{listed, listAnswer, listedOver}
 use Rattle.ring.specs.Ring.{around, inEighth, circleRule, slope, nearest, inColumn, ellipseRule}
 use Rattle.ring.specs.Answer.{semiAxes, ringAnswer}
 use Rattle.curve.specs.Rule.{blend, coordinateAt, pointAt, onCurve}
-use Rattle.curve.specs.Draw.{allInLimits, joinedInLimits, curveAnswer}
+use Rattle.curve.specs.Draw.{allInLimits, curveAnswer}
 use Rattle.survey.specs.Cell.{isCellOf, findCell}
 use Rattle.survey.specs.Metres.{sound, inCells}
 use Rattle.survey.specs.declared.Found.the-variants.{At}
@@ -30,10 +30,11 @@ use Rattle.survey.specs.declared.InCells.the-variants as cells
 use Rattle.survey.proofs.Cells.{cell-is}
 use Rattle.record.specs.Layout.{signed, lineRow, table}
 use Rattle.record.specs.Reading.{valuesFrom, limitedFrom, rowFound, kindFound, foundAt, readAt}
+use Rattle.record.specs.File.{readIn, readFrom, readAll, fileAnswer}
 use Rattle.record.specs.declared.types.Figure.{Figure}
 use Rattle.record.specs.declared.types.Figure.the-variants.{Line, Circle, Ellipse, Curve}
 use Rattle.drawing.specs.Figure.{onFigure, figureAnswer}
-use Rattle.drawing.specs.File.{contentsIn, contentsFrom, contents, recordsOf, paintAll, drawFileAnswer}
+use Rattle.drawing.specs.File.{recordsOf, paintAll, drawFileAnswer}
 use Rattle.drawing.specs.Metres.{isRadius, areSemiAxes, cellsAnswer, metresAnswer, onCells, onMetres}
 
 abbrev pub small : Shape
@@ -62,7 +63,7 @@ unfolding paint byPlace held onSheet cellAt ringAnswer semiAxes semiAxis fits in
 ellipse-draws e = nothing e
 
 pub curve-draws : lent ≡ leaves (Curve (cellOf 0 0) (cellOf 0 0) (cellOf 0 0) 0) → ⊥
-unfolding paint byPlace held onSheet cellAt curveAnswer allInLimits joinedInLimits fits inLimits coordinate onCurve all pointAt coordinateAt blend onLine nth fromLesser lesser rise isCell any
+unfolding paint byPlace held onSheet cellAt curveAnswer allInLimits fits inLimits coordinate onCurve pointAt coordinateAt blend onLine nth fromLesser lesser rise isCell any
 curve-draws e = nothing e
 
 -- and the listing of its one cell (0,0) leaves 0 in a list that was lent as 1
@@ -74,8 +75,8 @@ list-draws e = let z : _≡_ {A = ℤ} (pos 1) (pos 0) = ap (λ (s : List ℤ). 
 abbrev oneLine : List ℕ
 oneLine = 11 ∷ 0 ∷ 1 ∷ 0 ∷ 1 ∷ 0 ∷ 0 ∷ 0 ∷ 0 ∷ 0 ∷ 0 ∷ 0 ∷ 0 ∷ []
 
-pub file-draws : lent ≡ settled (drawFileAnswer small 1 oneLine) (paintAll small (recordsOf (contents oneLine)) lent) lent → ⊥
-unfolding drawFileAnswer contents contentsFrom contentsIn readAt foundAt kindFound rowFound limitedFrom valuesFrom table lineRow signed paintAll paint byPlace held onSheet cellAt fits inLimits coordinate onLine nth fromLesser lesser rise isCell any
+pub file-draws : lent ≡ settled (drawFileAnswer small 1 oneLine) (paintAll small (recordsOf (readAll oneLine)) lent) lent → ⊥
+unfolding drawFileAnswer fileAnswer readAll readFrom readIn readAt foundAt kindFound rowFound limitedFrom valuesFrom table lineRow signed paintAll paint byPlace held onSheet cellAt fits inLimits coordinate onLine nth fromLesser lesser rise isCell any
 file-draws e = nothing e
 
 -- in metres: a survey with its origins at 0.0 and cells of 1.0

@@ -4,13 +4,12 @@
 use Prim.Native.Nat.{ℕ}
 use mathlib.Core.Path.{_≡_, refl, ap, _∙_}
 use mathlib.Core.List.{List, [], _∷_}
-use mathlib.Core.Bool.{true, false, true≢false, _&&_}
+use mathlib.Core.Bool.{true, false, true≢false}
 use native.Mathlib.Omega.{arith}
 use lib.Dec.{eqb}
 use lib.ListN.{length}
 use lib.IntN.{pos, natAbs}
 use lib.Ieee.{Float, nan, ofInt, sub, div, le, lt}
-use Rattle.laws.specs.Below.{all}
 use Rattle.sheet.specs.Sheet.{fits, coordinate, inLimits, cellOf, semiAxis}
 use Rattle.sheet.specs.Reply.{Answer, number}
 use Rattle.sheet.specs.Mark.{markAnswer}
@@ -24,8 +23,7 @@ use Rattle.line.specs.Draw.{lineAnswer}
 use Rattle.line.specs.Listing.{listAnswer}
 use Rattle.line.specs.Pen.{fresh, movedOn, beginAnswer, hasCell, nextAnswer, askAnswer}
 use Rattle.ring.specs.Answer.{semiAxes, ringAnswer, circleAnswer, ellipseAnswer}
-use Rattle.curve.specs.Rule.{blend, coordinateAt, pointAt}
-use Rattle.curve.specs.Draw.{allInLimits, joinedInLimits, curveAnswer}
+use Rattle.curve.specs.Draw.{allInLimits, curveAnswer}
 use Rattle.survey.specs.Cell.{isCellOf, findCell, toldFound}
 use Rattle.survey.specs.Metres.{findCoordinate, findLength, sound, inCells, toldInCells}
 use Rattle.survey.specs.declared.Found.the-variants.{At, NoCell}
@@ -39,7 +37,7 @@ use Rattle.record.specs.Reading.{foundAt, readAt, readAnswer}
 use Rattle.record.specs.File.{readIn, readFrom, readAll, fileAnswer}
 use Rattle.record.specs.declared.types.Figure.the-variants.{Line}
 use Rattle.drawing.specs.Figure.{figureAnswer}
-use Rattle.drawing.specs.File.{contentsIn, contentsFrom, contents, drawFileAnswer}
+use Rattle.drawing.specs.File.{drawFileAnswer}
 use Rattle.drawing.specs.Metres.{isRadius, areSemiAxes, cellsAnswer, metresAnswer}
 use Rattle.drawing.proofs.Nothing.{small, whole, home, zero-at, zero-long, line-cells, circle-cells, ellipse-cells}
 
@@ -115,17 +113,10 @@ pub ellipse-both : Both (ellipseAnswer small 1 origin 1) 1 0
 unfolding ringAnswer semiAxes semiAxis fits inLimits coordinate
 ellipse-both = record { done = refl; refused = refl }
 
--- of curve: s above 6, a last point outside the limits
+-- of curve: s above 6
 pub curve-both : Both (curveAnswer small 1 (origin ∷ origin ∷ origin ∷ [])) 0 7
-unfolding curveAnswer allInLimits joinedInLimits fits inLimits coordinate all pointAt coordinateAt blend
+unfolding curveAnswer allInLimits fits inLimits coordinate
 curve-both = record { done = refl; refused = refl }
-
-abbrev pointsTo : Cell → List Cell
-pointsTo p = origin ∷ origin ∷ p ∷ []
-
-pub points-differ : Differ (λ (p : Cell). allInLimits (pointsTo p) && joinedInLimits (pointsTo p) 0) origin far
-unfolding allInLimits joinedInLimits inLimits coordinate all pointAt coordinateAt blend
-points-differ e = true≢false e
 
 -- of survey: a survey whose cell size is 0.0; what is divided by it is not a number
 abbrev flat : Survey
@@ -189,7 +180,7 @@ unfolding lineAnswer fits inLimits coordinate
 figure-both = record { done = refl; refused = refl }
 
 pub file-both : Both (drawFileAnswer small 1) [] lone
-unfolding drawFileAnswer contents contentsFrom contentsIn readAt foundAt fits
+unfolding drawFileAnswer fileAnswer readAll readFrom readIn readAt foundAt fits
 file-both = record { done = refl; refused = refl }
 
 pub line-metres-both : Both (λ (s : Survey). metresAnswer small 1 s (metres.Line (whole 0) (whole 0) (whole 0) (whole 0))) home flat

@@ -1,7 +1,6 @@
 pub mod Boundary
 pub mod Figure
 pub mod File
-pub mod Inner
 pub mod Metres
 pub mod Shown
 pub mod Starred

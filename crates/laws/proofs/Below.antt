@@ -1,14 +1,14 @@
--- The laws of `any`, `count` and `all`.
+-- The laws of `any` and `count`.
 use Prim.Native.Nat.{ℕ, zero, suc, _+_, _<_}
-use mathlib.Core.Path.{_≡_, refl, sym, subst, ap, ap₂, _∙_}
+use mathlib.Core.Path.{_≡_, refl, subst, ap, ap₂, _∙_}
 use mathlib.Core.Logic.{⊎-elim}
-use mathlib.Core.Bool.{Bool, true, false, cond, _&&_, _||_, or-false}
+use mathlib.Core.Bool.{Bool, true, false, cond, _||_, or-false}
 use native.Mathlib.Omega.{arith}
 use native.Mathlib.Numerals.{add-one}
 use borrow.Author.Tests.{eqb-true, eqb-false, ne-eqb}
 use lib.Dec.{T, eqb}
-use Rattle.laws.specs.Below.{any, count, all}
-use Rattle.laws.proofs.Tests.{and-l, and-r, or-l, or-r, or-e}
+use Rattle.laws.specs.Below.{any, count}
+use Rattle.laws.proofs.Tests.{or-l, or-r, or-e}
 
 -- one number more
 pub any-more : (n : ℕ) (test : ℕ → Bool) → any (n + 1) test ≡ (any n test || test n)
@@ -73,22 +73,3 @@ count-more (suc n) test at l e = by (λ m. count-more n test at m e) (eqb n at) 
     by f false p =
         let v = f (omega (arith, eqb-false n at p)) in
         simp (p, or-false (test n)) (omega arith)
-
--- all pass: one number more, tests that agree, and each of them
-pub all-more : (n : ℕ) (test : ℕ → Bool) → all (n + 1) test ≡ (all n test && test n)
-unfolding all
-all-more n test = rw add-one
-
-pub all-as : (n : ℕ) (f g : ℕ → Bool) → ((i : ℕ) → i < n → f i ≡ g i) → all n f ≡ all n g
-unfolding all
-all-as zero f g h = refl
-all-as (suc n) f g h = ap₂ _&&_ (all-as n f g (λ i l. h i (omega arith))) (h n (omega arith))
-
-pub all→ : (n : ℕ) (test : ℕ → Bool) → T (all n test) → (i : ℕ) → i < n → T (test i)
-unfolding all
-all→ zero test t i l = absurd (omega arith)
-all→ (suc n) test t i l = by (λ m. all→ n test (and-l (all n test) (test n) t) i m) (eqb i n) refl
-  where
-    by : (i < n → T (test i)) → (b : Bool) → eqb i n ≡ b → T (test i)
-    by f true e = subst (λ (j : ℕ). T (test j)) (sym (eqb-true i n e)) (and-r (all n test) (test n) t)
-    by f false e = f (omega (arith, eqb-false i n e))

@@ -23,10 +23,9 @@ use Rattle.survey.specs.declared.Found.the-variants.{At, NoCell}
 use Rattle.survey.specs.declared.Survey.{Survey}
 use Rattle.survey.specs.declared.Metres.the-variants as metres
 use Rattle.survey.specs.declared.InCells.the-variants as cells
-use Rattle.record.specs.File.{holds}
+use Rattle.record.specs.File.{holds, readAll}
 use Rattle.record.specs.declared.types.Record.{Record}
 use Rattle.drawing.specs.Boundary.{SameBoundary, InTurn}
-use Rattle.drawing.specs.File.{contents}
 use Rattle.drawing.specs.Metres.{cellsAnswer, metresAnswer}
 use Rattle.drawing.proofs.Boundary.{answer-either, left-either, metres-answer-either, metres-left-either, same-boundary, same-in-turn, files-left, files-told}
 use Rattle.pistonwool.specs.Boundary.{Counts, LineDrawn, MetresDrawn, FileDrawn}
@@ -103,7 +102,7 @@ module _ (width height ink : ℕ) (lent : List ℕ) (p q n m c d : ℕ) (s t : L
       (metres-left-either k v x0 y0 x1 y1 ink lent)
 
 -- Two files, none of whose records is refused, by `pw_file` on sheets that were alike:
-module _ (width height : ℕ) (file other lent : List ℕ) (rs qs : List Record) (e : contents file ≡ holds rs) (f : contents other ≡ holds qs)
+module _ (width height : ℕ) (file other lent : List ℕ) (rs qs : List Record) (e : readAll file ≡ holds rs) (f : readAll other ≡ holds qs)
     (n m v w : ℕ) (s t : List ℕ) (h : FileDrawn width height file lent n v s) (g : FileDrawn width height other lent m w t) where
   -- where they name one boundary in one ink, in any order, the bytes left are the same ..
   pub same-file : (ink : ℕ) → SameBoundary ink rs qs → s ≡ t

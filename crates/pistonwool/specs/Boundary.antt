@@ -12,7 +12,8 @@ use Rattle.line.specs.Draw.{lineAnswer}
 use Rattle.survey.specs.Metres.{cell}
 use Rattle.survey.specs.declared.Survey.{Survey}
 use Rattle.survey.specs.declared.Metres.the-variants as metres
-use Rattle.drawing.specs.File.{contents, recordsOf, paintAll, drawFileAnswer}
+use Rattle.record.specs.File.{readAll}
+use Rattle.drawing.specs.File.{recordsOf, paintAll, drawFileAnswer}
 use Rattle.drawing.specs.Metres.{metresAnswer, onMetres}
 use Rattle.pistonwool.specs.Told.{firstValue, replied, shapeOf}
 
@@ -38,4 +39,4 @@ MetresDrawn width height ink s x0 y0 x1 y1 lent =
 pub record FileDrawn (width height : ℕ) (file lent : List ℕ) (number value : ℕ) (bytes : List ℕ) : Type 0 where
   pub told : replied number value ≡ drawFileAnswer (shapeOf width height) (length lent) file
   pub leaves : bytes
-      ≡ settled (drawFileAnswer (shapeOf width height) (length lent) file) (paintAll (shapeOf width height) (recordsOf (contents file)) lent) lent
+      ≡ settled (drawFileAnswer (shapeOf width height) (length lent) file) (paintAll (shapeOf width height) (recordsOf (readAll file)) lent) lent

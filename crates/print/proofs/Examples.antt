@@ -8,7 +8,8 @@ use lib.ListN.{getD}
 use Rattle.sheet.specs.Sheet.{place, fits}
 use Rattle.sheet.proofs.Empty.{Differ}
 use Rattle.record.specs.Reading.{foundAt, readAt}
-use Rattle.drawing.specs.File.{contentsIn, contentsFrom, contents, paintAll, drawFileAnswer}
+use Rattle.record.specs.File.{readIn, readFrom, readAll, fileAnswer}
+use Rattle.drawing.specs.File.{paintAll, drawFileAnswer}
 use Rattle.print.specs.Text.{inTurn, zeros, cell, line, picture, decimalIn, decimal, refusal, textOf, replyOf}
 
 -- 0, 10, 4083
@@ -18,17 +19,17 @@ some-decimals = (refl, refl, refl)
 
 -- `refused 8 at 0`
 pub lone-byte : (b : ℕ) → textOf (b ∷ []) ≡ 114 ∷ 101 ∷ 102 ∷ 117 ∷ 115 ∷ 101 ∷ 100 ∷ 32 ∷ 56 ∷ 32 ∷ 97 ∷ 116 ∷ 32 ∷ 48 ∷ 10 ∷ []
-unfolding textOf refusal decimal decimalIn drawFileAnswer fits contents contentsFrom contentsIn readAt foundAt
+unfolding textOf refusal decimal decimalIn drawFileAnswer fits fileAnswer readAll readFrom readIn readAt foundAt
 lone-byte b = refl
 
 -- the picture of the sheet of zeros
 pub empty-text : textOf [] ≡ picture zeros
-unfolding textOf drawFileAnswer fits contents contentsFrom contentsIn readAt foundAt paintAll
+unfolding textOf drawFileAnswer fits fileAnswer readAll readFrom readIn readAt foundAt paintAll
 empty-text = refl
 
 -- A program that refuses all prints the line of a refusal, which begins with `r`, where the empty file's picture begins with `.`.
 pub text-shows : (number offset : ℕ) → refusal number offset ≡ textOf [] → ⊥
-unfolding textOf refusal picture line inTurn cell place drawFileAnswer fits contents contentsFrom contentsIn readAt foundAt paintAll
+unfolding textOf refusal picture line inTurn cell place drawFileAnswer fits fileAnswer readAll readFrom readIn readAt foundAt paintAll
 text-shows number offset e = let z : _≡_ {A = ℕ} 114 46 = ap (λ (s : List ℕ). getD s 0 0) e in omega arith
 
 -- One that always prints the same has one text for a lone byte and for the empty file.
@@ -38,5 +39,5 @@ text-differs e = text-shows 8 0 (sym (lone-byte 0) ∙ e)
 
 -- and one for the empty file read whole and for a read that failed, whose line begins with `i`
 pub reply-differs : Differ (λ (whole : Bool). replyOf whole []) true false
-unfolding replyOf textOf picture line inTurn cell place drawFileAnswer fits contents contentsFrom contentsIn readAt foundAt paintAll
+unfolding replyOf textOf picture line inTurn cell place drawFileAnswer fits fileAnswer readAll readFrom readIn readAt foundAt paintAll
 reply-differs e = let z : _≡_ {A = ℕ} 46 105 = ap (λ (s : List ℕ). getD s 0 0) e in omega arith

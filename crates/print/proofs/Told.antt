@@ -12,7 +12,8 @@ use Rattle.sheet.specs.Reply.{Answer, number, done, settled}
 use Rattle.sheet.specs.declared.Refusal.{Refusal}
 use Rattle.sheet.proofs.Unique.{number-not-0}
 use Rattle.record.specs.Reading.{refuseAt}
-use Rattle.drawing.specs.File.{contents, recordsOf, paintAll, drawFileAnswer, toldFiled}
+use Rattle.record.specs.File.{readAll}
+use Rattle.drawing.specs.File.{recordsOf, paintAll, drawFileAnswer, toldFiled}
 use Rattle.drawing.specs.declared.Filed.{Filed}
 use Rattle.drawing.specs.declared.Filed.the-variants.{Done, Refused}
 use Rattle.print.specs.Text.{sheet, zeros, picture, refusal, tooLong, told, textOf, unreadable, replyOf}
@@ -23,7 +24,7 @@ abbrev answer : List ℕ → Answer
 answer file = drawFileAnswer sheet (bytes sheet) file
 
 abbrev painted : List ℕ → List ℕ
-painted file = paintAll sheet (recordsOf (contents file)) zeros
+painted file = paintAll sheet (recordsOf (readAll file)) zeros
 
 pub text-too-long : (file : List ℕ) → 4096 < length file → textOf file ≡ tooLong
 unfolding textOf

@@ -8,7 +8,8 @@ use lib.ListN.{length, getD, replicate}
 use Rattle.sheet.specs.Sheet.{bytes, place, cellOf}
 use Rattle.sheet.specs.Reply.{Answer, settled}
 use Rattle.sheet.specs.declared.Shape.{Shape}
-use Rattle.drawing.specs.File.{contents, recordsOf, paintAll, drawFileAnswer}
+use Rattle.record.specs.File.{readAll}
+use Rattle.drawing.specs.File.{recordsOf, paintAll, drawFileAnswer}
 
 -- Every line ends with a newline.
 abbrev pub newline : List ℕ
@@ -73,7 +74,7 @@ told a drawn = settled a (picture drawn) (refusal (a .number) (offsetOf a))
 unfoldable pub textOf : List ℕ → List ℕ
 textOf file =
     cond (leb (length file) 4096)
-    (told (drawFileAnswer sheet (bytes sheet) file) (paintAll sheet (recordsOf (contents file)) zeros))
+    (told (drawFileAnswer sheet (bytes sheet) file) (paintAll sheet (recordsOf (readAll file)) zeros))
     tooLong
 
 -- `input cannot be read`, of which document 01 does not speak

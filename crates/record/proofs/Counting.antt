@@ -2,9 +2,7 @@
 use Prim.Native.Nat.{ℕ, _+_, _≤_}
 use mathlib.Core.Path.{_≡_, refl, sym, ap, _∙_}
 use mathlib.Core.List.{List, [], _∷_}
-use mathlib.Core.Logic.{_⊎_, inl, inr}
 use native.Mathlib.Omega.{arith}
-use denote.Enum.Declared.{tagOf, declared}
 use lib.IntN.{pos}
 use lib.ListN.{length}
 use Rattle.sheet.specs.Reply.{Answer, done}
@@ -14,9 +12,8 @@ use Rattle.record.specs.Inner.{closedBy}
 use Rattle.record.specs.declared.types.Record.{Record}
 use Rattle.record.specs.declared.types.Read.{Read}
 use Rattle.record.specs.declared.types.Read.the-variants as read
-use Rattle.record.proofs.types.Read.{enum}
 use Rattle.record.proofs.Stands.{stands}
-use Rattle.record.proofs.Onward.{from-record, from-end, from-refusal}
+use Rattle.record.proofs.Onward.{NoRecord, is-record, from-record, from-end, from-refusal}
 
 -- the answer of contents that stand after n records
 abbrev pub answerAfter : ℕ → Contents → Answer
@@ -51,9 +48,8 @@ module _ (s : List ℕ) (count at : ℕ) (h : Counting s count at) where
       }
 
   -- the end and a refusal close the reading; a record does not
-  pub closes : (q : Read) → q ≡ readAt s at → ((tagOf (declared enum) q ≡ 1) ⊎ (tagOf (declared enum) q ≡ 2)) → toldChecked (closedBy q count) ≡ fileAnswer s
-  closes (read.Record r) e (inl t) = absurd (let z : _≡_ {A = ℕ} 0 1 = t in omega arith)
-  closes (read.Record r) e (inr t) = absurd (let z : _≡_ {A = ℕ} 0 2 = t in omega arith)
+  pub closes : (q : Read) → q ≡ readAt s at → NoRecord q → toldChecked (closedBy q count) ≡ fileAnswer s
+  closes (read.Record r) e t = absurd (is-record r t)
   closes read.End e t =
       let n : count ≡ count + 0 = omega arith in
       ap (λ (n : ℕ). done (pos n ∷ [])) n ∙ ap (answerAfter count) (sym (from-end s at e)) ∙ h .whole

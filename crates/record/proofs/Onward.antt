@@ -2,7 +2,9 @@
 use Prim.Native.Nat.{ℕ, zero, suc, _-_, _<_}
 use mathlib.Core.Path.{_≡_, refl, sym, ap, _∙_}
 use mathlib.Core.List.{List, []}
+use mathlib.Core.Logic.{_⊎_, inl, inr}
 use native.Mathlib.Omega.{arith}
+use denote.Enum.Declared.{tagOf, declared}
 use lib.ListN.{length}
 use Rattle.sheet.specs.declared.Refusal.{Refusal}
 use Rattle.record.specs.Reading.{readAt}
@@ -10,7 +12,16 @@ use Rattle.record.specs.File.{Contents, holds, refuses, also, onward, re
 use Rattle.record.specs.declared.types.Record.{Record}
 use Rattle.record.specs.declared.types.Read.{Read}
 use Rattle.record.specs.declared.types.Read.the-variants as read
+use Rattle.record.proofs.types.Read.{enum}
 use Rattle.record.proofs.Stands.{stands}
+
+-- a read that is no record
+abbrev pub NoRecord : Read → Type 0
+NoRecord q = (tagOf (declared enum) q ≡ 1) ⊎ (tagOf (declared enum) q ≡ 2)
+
+pub is-record : (r : Record) → NoRecord (read.Record r) → ⊥
+is-record r (inl t) = let z : _≡_ {A = ℕ} 0 1 = t in omega arith
+is-record r (inr t) = let z : _≡_ {A = ℕ} 0 2 = t in omega arith
 
 -- what follows matters only after a record
 onward-as : (f g : ℕ → Contents) (q : Read) → ((r : Record) → read.Record r ≡ q → f (r .next) ≡ g (r .next)) → onward f q ≡ onward g q

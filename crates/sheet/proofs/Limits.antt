@@ -6,7 +6,7 @@ use mathlib.Core.Bool.{Bool, true, false, _&&_, not}
 use native.Mathlib.Omega.{arith}
 use borrow.Author.Tests.{eqb-true, eqb-false, le-leb, eq-eqb}
 use lib.ListN.{length}
-use lib.Dec.{T, leb, eqb, leb→le, le→leb, eqb→eq}
+use lib.Dec.{T, eqb, leb→le, eqb→eq}
 use lib.IntN.{ℤ, pos, negsuc}
 use lib.Signed.{leZ}
 use mir.Syntax.{w32}
@@ -14,7 +14,7 @@ use mir.Val.{SFits, toZ, ofZ}
 use mir.Facts.{toZ-ofZ}
 use Rattle.laws.proofs.Parts.{up, dn}
 use Rattle.laws.proofs.Ints.{le-parts, one-zero, parts, to-≡ℤ, is-leZ, no-leZ}
-use Rattle.laws.proofs.Tests.{and-l, and-r, and-i, same, is-true, from-true}
+use Rattle.laws.proofs.Tests.{and-l, and-r, is-true, from-true}
 use Rattle.sheet.specs.Sheet.{size, bytes, fits, coordinate, inLimits, cellOf}
 use Rattle.sheet.specs.Inner.{moved, unmoved, movedCell, unmovedCell, lowered, loweredCell, Moved, Sheet}
 use Rattle.sheet.specs.declared.Cell.{Cell}
@@ -123,20 +123,9 @@ is-lifted z m e = by (eqb m 0) refl
     by true p = sym (not-lifted z m e (eqb-true m 0 p))
     by false p = sym (lifted z m e (eqb-false m 0 p) .ok)
 
--- whether a moved number stands for a coordinate
-pub moved-within : (m : ℕ) → (leb 49152 m && leb m 81919) ≡ coordinate (unmoved m)
-moved-within m =
-    same (leb 49152 m && leb m 81919) (coordinate (unmoved m))
-    (λ t.
-    let l : 49152 ≤ m = leb→le 49152 m (and-l (leb 49152 m) (leb m 81919) t) in
-    let h : m ≤ 81919 = leb→le m 81919 (and-r (leb 49152 m) (leb m 81919) t) in
-    from-true (coordinate (unmoved m)) (limit-in (unmoved m) (simp parts (omega arith)) (simp parts (omega arith))))
-    (λ t.
-    let e = is-true (coordinate (unmoved m)) t in
-    let p = stands-parts m (unmoved m) refl in
-    let l = limit-low (unmoved m) e in
-    let h = limit-high (unmoved m) e in
-    and-i (leb 49152 m) (leb m 81919) (le→leb 49152 m (omega arith)) (le→leb m 81919 (omega arith)))
+-- a moved coordinate stands for one within the limits
+pub moved-in : (m : ℕ) → Moved m → coordinate (unmoved m) ≡ true
+moved-in m h = limit-in (unmoved m) (simp parts (omega (arith, h .least))) (simp parts (omega (arith, h .most)))
 
 -- a cell within the limits, by its coordinates
 pub limits-x : (c : Cell) → inLimits c ≡ true → coordinate (c .x) ≡ true
@@ -169,7 +158,7 @@ unmoved-cell p a b =
 -- a number that is lowered, and one that is not
 pub lowered-is : (m : ℕ) → 49152 ≤ m → m ≤ 81919 → lowered m ≡ unmoved m
 unfolding lowered
-lowered-is m l h = let e : coordinate (unmoved m) ≡ true = limit-in (unmoved m) (simp parts (omega arith)) (simp parts (omega arith)) in simp e
+lowered-is m l h = simp (moved-in m (record { least = l; most = h }))
 
 pub lowered-below : (m : ℕ) → m < 49152 → pos 0 ≡ lowered m
 unfolding lowered

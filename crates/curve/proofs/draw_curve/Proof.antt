@@ -1,19 +1,17 @@
 -- `curve::draw_curve` meets its contract.
-use Prim.Native.Nat.{_+_, _^_}
+use Prim.Native.Nat.{_^_}
 use mathlib.Core.Path.{_≡_, sym, subst, ap, _∙_}
 use mathlib.Core.Bool.{true}
 use mathlib.Core.List.{[], _∷_}
 use denote.Ref.{now}
 use lib.ListN.{length}
-use Rattle.laws.specs.Below.{all}
 use Rattle.laws.proofs.Tests.{no, yes}
 use Rattle.sheet.specs.Sheet.{fits, paint}
 use Rattle.sheet.proofs.Limits.{fits-sheet}
 use Rattle.curve.specs.Draw.{allInLimits}
 use Rattle.curve.specs.Inner.{Bends, firstPieces}
 use Rattle.curve.specs.declared.Controls.{Controls}
-use Rattle.curve.proofs.Joining.{isIn}
-use Rattle.curve.proofs.Answers.{bends, curve-size, curve-control, curve-pieces, curve-joined, curve-done}
+use Rattle.curve.proofs.Answers.{bends, curve-size, curve-control, curve-pieces, curve-done}
 use borrow.Author.Needs.{needs}
 use Rattle.curve.proofs.draw_curve.Statement.{statement}
 use Rattle.curve.proofs.draw_curve.Tie as tie
@@ -58,43 +56,27 @@ returns-3 c =
 controls-of-requires : tie.Need-controls-of-requires
 controls-of-requires c κs = search needs
 
-all-within-requires : tie.Need-all-within-requires
-all-within-requires c κs = (lifted c, c .before .if3 .left)
-
-returns-4 : tie.Need-returns-4
-returns-4 c =
-    let bent = c .before .before in
-    let split = bent .before in
-    let inside = split .before in
-    let sized = inside .before .before in
-    let a = sized .before .before .before .args in
-    curve-joined (a .shape) (a .ink) (a .p0) (a .p1) (a .p2) (a .s) (now (a .sheet)) (fitted sized) (limited inside) (split .if3 .left)
-    (ap (λ (k : Controls). all (2 ^ a .s + 1) (isIn k (a .s))) (sym (bent .controls-of .ensures)) ∙ no _ _ (c .before .all-within .ensures) (c .if4 .taken))
-
 join-requires : tie.Need-join-requires
 join-requires c κs =
-    let tested = c .before in
-    let bent = tested .before .before in
+    let bent = c .before in
     let split = bent .before in
     let sized = split .before .before .before in
     let a = sized .before .before .before .args in
-    ((fits-sheet (a .shape) (now (a .sheet)) (fitted sized), lifted bent, split .if3 .left), yes _ _ (tested .before .all-within .ensures) (tested .if4 .left))
+    (fits-sheet (a .shape) (now (a .sheet)) (fitted sized), lifted bent, split .if3 .left)
 
 same-length : tie.Need-same-length
 same-length c = search needs
 
-returns-5 : tie.Need-returns-5
-returns-5 c =
+returns-4 : tie.Need-returns-4
+returns-4 c =
     let called = c .before .before in
-    let tested = called .before .before in
-    let bent = tested .before .before in
+    let bent = called .before .before in
     let split = bent .before in
     let inside = split .before in
     let sized = inside .before .before in
     let a = sized .before .before .before .args in
     let e = bent .controls-of .ensures in
     curve-done (a .shape) (a .ink) (a .p0) (a .p1) (a .p2) (a .s) (now (a .sheet)) (fitted sized) (limited inside) (split .if3 .left)
-    (ap (λ (k : Controls). all (2 ^ a .s + 1) (isIn k (a .s))) (sym e) ∙ yes _ _ (tested .before .all-within .ensures) (tested .if4 .left))
     _ (called .join .ensures ∙ ap (λ (k : Controls). paint (a .shape) (a .ink) (firstPieces k (a .s) (2 ^ a .s)) (now (a .sheet))) e)
 
 pub draw-curve-spec : {M : Type 1} → statement M
@@ -107,8 +89,6 @@ draw-curve-spec =
     returns-2
     returns-3
     controls-of-requires
-    all-within-requires
-    returns-4
     join-requires
     same-length
-    returns-5)
+    returns-4)

@@ -1,12 +1,15 @@
 -- `curve::join` meets its contract.
-use Prim.Native.Nat.{_-_}
-use mathlib.Core.Path.{sym, ap, _∙_}
+use Prim.Native.Nat.{ℕ, _-_, _^_, _≤_}
+use mathlib.Core.Path.{_≡_, sym, ap, _∙_}
+use mathlib.Core.Bool.{true}
 use native.Mathlib.Omega.{arith}
 use denote.Ref.{now}
 use Rattle.sheet.specs.Sheet.{inLimits}
 use Rattle.sheet.specs.Inner.{unmovedCell}
 use Rattle.sheet.specs.declared.Spot.{Spot}
-use Rattle.curve.proofs.Joining.{Joining, begins, turn, ends, point-in}
+use Rattle.curve.specs.Inner.{jointAt}
+use Rattle.curve.proofs.Between.{joint-in}
+use Rattle.curve.proofs.Joining.{Joining, begins, turn, ends}
 use Rattle.curve.proofs.join.Statement.{statement}
 use Rattle.curve.proofs.join.Tie as tie
 
@@ -17,16 +20,16 @@ abbrev μ-loop : tie.MeasureT-loop
 μ-loop sheet₀ shape ink controls s n from₀ i₀ sheet from i = n - i
 
 pieces-requires : tie.Need-pieces-requires Inv-loop μ-loop
-pieces-requires c κs = c .before .pre .0 .2
+pieces-requires c κs = c .before .pre .2
 
 joint-at-requires : tie.Need-joint-at-requires Inv-loop μ-loop
-joint-at-requires c κs = let p = c .before .before .pre .0 in (p .1, p .2, omega arith)
+joint-at-requires c κs = let p = c .before .before .pre in (p .1, p .2, omega arith)
 
 loop-holds : tie.Need-loop-holds Inv-loop μ-loop
 loop-holds c =
     let start = c .before .before .before in
     let a = start .args in
-    begins (a .shape) (a .ink) (a .controls) (a .s) (now (a .sheet)) (c .joint-at .result) (start .pre .0 .0) (c .joint-at .ensures)
+    begins (a .shape) (a .ink) (a .controls) (a .s) (now (a .sheet)) (c .joint-at .result) (start .pre .0) (c .joint-at .ensures)
 
 add-i : tie.Need-add-i Inv-loop μ-loop
 add-i c = omega (arith, c .before .before .before .pieces .ensures .1)
@@ -34,7 +37,7 @@ add-i c = omega (arith, c .before .before .before .pieces .ensures .1)
 joint-at-requires-2 : tie.Need-joint-at-requires-2 Inv-loop μ-loop
 joint-at-requires-2 c κs =
     let counted = c .before .before .before in
-    let p = counted .before .before .pre .0 in
+    let p = counted .before .before .pre in
     (p .1, p .2, omega (arith, counted .pieces .ensures .0))
 
 piece-requires : tie.Need-piece-requires Inv-loop μ-loop
@@ -44,8 +47,9 @@ piece-requires c κs =
     let start = counted .before .before in
     let a = start .args in
     let g = head .loop .inv in
-    let all-in = start .pre .1 in
-    (g .sized, (ap (λ (p : Spot). inLimits (unmovedCell p)) (g .from-is) ∙ point-in (a .controls) (a .s) _ (head .loop .i) all-in (omega (arith, counted .pieces .ensures .0)), ap (λ (p : Spot). inLimits (unmovedCell p)) (c .before .joint-at2 .ensures) ∙ point-in (a .controls) (a .s) _ _ all-in (omega (arith, counted .pieces .ensures .0))))
+    let in-limits : (p : Spot) (i : ℕ) → p ≡ jointAt (a .controls) (a .s) i → i ≤ 2 ^ a .s → inLimits (unmovedCell p) ≡ true =
+    λ p i e m. ap (λ (p : Spot). inLimits (unmovedCell p)) e ∙ joint-in (a .controls) (a .s) i (start .pre .1) m in
+    (g .sized, (in-limits _ _ (g .from-is) (g .low), in-limits _ _ (c .before .joint-at2 .ensures) (omega (arith, counted .pieces .ensures .0))))
 
 loop-less : tie.Need-loop-less Inv-loop μ-loop
 loop-less c = omega arith
@@ -63,7 +67,7 @@ loop-again c =
 same-length : tie.Need-same-length Inv-loop μ-loop
 same-length c =
     let start = c .before .before .before .before .before in
-    c .before .loop .inv .sized .area ∙ sym (start .pre .0 .0 .area)
+    c .before .loop .inv .sized .area ∙ sym (start .pre .0 .area)
 
 returns : tie.Need-returns Inv-loop μ-loop
 returns c =

@@ -1,24 +1,25 @@
 -- `drawing::file::draw_file` meets its contract.
-use mathlib.Core.Path.{_≡_, sym, _∙_}
+use mathlib.Core.Path.{_≡_, ap, _∙_}
 use mathlib.Core.Bool.{true}
 use denote.Ref.{now}
+use lib.Dec.{eqb}
 use lib.ListN.{length}
 use Rattle.laws.proofs.Tests.{no, yes}
 use Rattle.sheet.specs.Sheet.{fits}
-use Rattle.record.specs.declared.types.Read.the-variants as read
-use Rattle.drawing.specs.File.{contents, toldFiled}
-use Rattle.drawing.specs.Inner.{closing}
+use Rattle.sheet.specs.Reply.{Answer}
+use Rattle.record.specs.File.{fileAnswer}
+use Rattle.drawing.specs.File.{toldFiled}
 use Rattle.drawing.proofs.Records.{file-size, file-refused, file-drawn}
 use borrow.Author.Needs.{needs}
 use Rattle.drawing.proofs.file.draw_file.Statement.{statement}
 use Rattle.drawing.proofs.file.draw_file.Tie as tie
 
--- what the test and the reading showed
+-- what the two tests showed
 fitted : (c : tie.Else1) → let a = c .before .before .before .before .args in fits (a .shape) (length (now (a .sheet))) ≡ true
 fitted c = yes _ _ (c .before .fits2 .ensures) (c .if1 .left)
 
-sound : (c : tie.After-enum-told) → read.End ≡ closing (contents (now (c .before .before .before .before .before .before .before .args .file)))
-sound c = sym (c .enum-told .given .1) ∙ c .before .before .read-through .ensures
+tested : (c : tie.After-is-accepted) → c .is-accepted .result ≡ eqb (fileAnswer (now (c .before .before .before .before .before .before .args .file)) .number) 0
+tested c = c .is-accepted .ensures ∙ ap (λ (a : Answer). eqb (a .number) 0) (c .before .check .ensures)
 
 fits-requires : tie.Need-fits-requires
 fits-requires c κs = search needs
@@ -28,36 +29,44 @@ returns c =
     let a = c .before .before .before .before .args in
     file-size (a .shape) (now (a .file)) (now (a .sheet)) (no _ _ (c .before .fits2 .ensures) (c .if1 .taken))
 
-read-through-requires : tie.Need-read-through-requires
-read-through-requires c κs = search needs
+check-requires : tie.Need-check-requires
+check-requires c κs = search needs
 
-enum-told : tie.Need-enum-told
-enum-told c = search needs
+is-accepted-requires : tie.Need-is-accepted-requires
+is-accepted-requires c κs = search needs
 
-closed-requires : tie.Need-closed-requires
-closed-requires c κs = search needs
+filed-requires : tie.Need-filed-requires
+filed-requires c κs = search needs
 
 returns-2 : tie.Need-returns-2
 returns-2 c =
-    let answer = c .before .before in
-    let sized = answer .before in
+    let asked = c .before .before in
+    let checked = asked .before in
+    let sized = checked .before in
     let a = sized .before .before .before .before .args in
-    let e = file-refused (a .shape) (now (a .file)) (now (a .sheet)) (fitted sized) (answer .read-through .result) (answer .read-through .ensures) (c .before .match .keys2) in
-    (c .closed .ensures ∙ e .0, e .1)
+    file-refused (a .shape) (now (a .file)) (now (a .sheet)) (fitted sized) (no _ _ (tested asked) (c .before .if2 .taken)) _ (c .filed .ensures ∙ checked .check .ensures)
 
 draw-records-requires : tie.Need-draw-records-requires
-draw-records-requires c κs = (fitted (c .before .before .before .before), sound (c .before))
+draw-records-requires c κs =
+    let asked = c .before .before in
+    (fitted (asked .before .before), yes _ _ (tested asked) (c .before .if2 .left))
+
+filed-requires-2 : tie.Need-filed-requires-2
+filed-requires-2 c κs = search needs
 
 same-length : tie.Need-same-length
 same-length c = search needs
 
 returns-3 : tie.Need-returns-3
 returns-3 c =
-    let called = c .before .before in
-    let told = called .before .before in
-    let sized = told .before .before .before in
+    let called = c .before .before .before in
+    let accepted = called .before .before in
+    let asked = accepted .before in
+    let checked = asked .before in
+    let sized = checked .before in
     let a = sized .before .before .before .before .args in
-    file-drawn (a .shape) (now (a .file)) (now (a .sheet)) (fitted sized) (sound told) (toldFiled (called .draw-records .result)) _ (called .draw-records .ensures)
+    file-drawn (a .shape) (now (a .file)) (now (a .sheet)) (fitted sized) (yes _ _ (tested asked) (accepted .if2 .left))
+    (toldFiled (c .filed2 .result)) (c .filed2 .ensures ∙ checked .check .ensures) _ (called .draw-records .ensures)
 
 pub draw-file-spec : {M : Type 1} → statement M
 draw-file-spec =
@@ -65,10 +74,11 @@ draw-file-spec =
     (tie.spec
     fits-requires
     returns
-    read-through-requires
-    enum-told
-    closed-requires
+    check-requires
+    is-accepted-requires
+    filed-requires
     returns-2
     draw-records-requires
+    filed-requires-2
     same-length
     returns-3)
