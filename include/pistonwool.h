@@ -33,7 +33,7 @@ enum pw_reply {
     PW_DONE = 0,
     /* a sheet size is outside its limits, or the slice length differs from width x height */
     PW_SIZE = 1,
-    /* a coordinate, or a joined point of a curve, is outside its limits */
+    /* a coordinate is outside its limits; a curve has those of its control points */
     PW_COORDINATE = 2,
     /* a radius or semi-axis is outside its limits */
     PW_RADIUS = 3,

@@ -33,7 +33,7 @@ fn record(rules: &Rules, rest: &[u8]) -> Result<(u8, Figure, usize), u32> {
         3 => Figure::Ellipse(point(0), unsigned(2), unsigned(3)),
         _ => Figure::Curve([point(0), point(2), point(4)], body[15] as i64),
     };
-    match (rules.refusal)(rules, &figure) {
+    match (rules.refusal)(&figure) {
         Some(number) => Err(number),
         None => Ok((body[2], figure, 2 + length)),
     }

@@ -1,4 +1,4 @@
-//! A second drawing program, written from document 01 by membership, and what compares it with the library.
+//! A second drawing program, written from documents 01 and 02 by membership, and what compares it with the library.
 pub mod case;
 pub mod chance;
 pub mod file;

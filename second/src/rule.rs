@@ -67,7 +67,7 @@ pub struct Rules {
     /// What a pen of these ends that has told so many cells tells until it is finished.
     pub asked: fn(&Rules, Cell, Cell, u64) -> Vec<Told>,
     /// The number 2, 3 or 4 that refuses a figure.
-    pub refusal: fn(&Rules, &Figure) -> Option<u32>,
+    pub refusal: fn(&Figure) -> Option<u32>,
     /// Whether a file is read to its end before the first cell is written.
     pub reads_first: bool,
     /// Whether a refusal has the offset of its record.
@@ -95,7 +95,7 @@ impl Rules {
         if !sheet.fits() {
             return Reply::refused(1);
         }
-        match (self.refusal)(self, figure) {
+        match (self.refusal)(figure) {
             Some(number) => Reply::refused(number),
             None => Reply::done(self.paint(sheet, ink, figure)),
         }
@@ -120,11 +120,8 @@ impl Rules {
         None
     }
 
-    /// The points 0 to n of a curve; none with s above 6.
+    /// The points 0 to n of a curve.
     fn joined(&self, [p0, p1, p2]: [Cell; 3], s: i64) -> Vec<Cell> {
-        if s > 6 {
-            return Vec::new();
-        }
         let n = 1 << s;
         let at = |i: i64, c0: i64, c1: i64, c2: i64| {
             let weighed = (n - i) * (n - i) * c0 + 2 * i * (n - i) * c1 + i * i * c2;
@@ -157,7 +154,7 @@ impl Rules {
 
     /// Lists a line's cells: 2, then 5.
     pub fn list(&self, xs: &mut [i32], ys: &mut [i32], from: Cell, to: Cell) -> Reply {
-        if let Some(number) = (self.refusal)(self, &Figure::Line(from, to)) {
+        if let Some(number) = (self.refusal)(&Figure::Line(from, to)) {
             return Reply::refused(number);
         }
         let cells = (self.line)(from, to);
@@ -173,12 +170,12 @@ impl Rules {
 }
 
 /// The numbers 2, 3, 4 in this order.
-pub fn refusal(rules: &Rules, figure: &Figure) -> Option<u32> {
+pub fn refusal(figure: &Figure) -> Option<u32> {
     let strange = |points: &[Cell]| points.iter().any(|&(x, y)| !within(x) || !within(y));
     match *figure {
         Figure::Line(from, to) if strange(&[from, to]) => Some(2),
         Figure::Circle(centre, _) | Figure::Ellipse(centre, _, _) if strange(&[centre]) => Some(2),
-        Figure::Curve(points, s) if strange(&points) || strange(&rules.joined(points, s)) => Some(2),
+        Figure::Curve(points, _) if strange(&points) => Some(2),
         Figure::Circle(_, r) if !(0..=MOST).contains(&r) => Some(3),
         Figure::Ellipse(_, a, b) if [a, b].iter().any(|axis| !(1..=MOST).contains(axis)) => Some(3),
         Figure::Curve(_, s) if s > 6 => Some(4),
@@ -188,7 +185,7 @@ pub fn refusal(rules: &Rules, figure: &Figure) -> Option<u32> {
 
 /// Nothing after the last cell, nor for ends that no pen is begun from.
 pub fn asked(rules: &Rules, from: Cell, to: Cell, told: u64) -> Vec<Told> {
-    if (rules.refusal)(rules, &Figure::Line(from, to)).is_some() {
+    if (rules.refusal)(&Figure::Line(from, to)).is_some() {
         return Vec::new();
     }
     (rules.line)(from, to).into_iter().zip(1..).skip(told as usize).collect()
@@ -287,8 +284,8 @@ mod tests {
         let rules = Rules::document();
         assert_eq!(rules.joined([(0, 0), (2, 4), (4, 0)], 1), [(0, 0), (2, 2), (4, 0)]);
         assert_eq!(rules.joined([(-1, 0), (-1, -1), (0, 0)], 1), [(-1, 0), (-1, 0), (0, 0)]);
-        assert_eq!(refusal(&rules, &Figure::Curve([(0, 0); 3], 7)), Some(4));
-        assert_eq!(refusal(&rules, &Figure::Curve([(0, 0); 3], 6)), None);
-        assert_eq!(refusal(&rules, &Figure::Line((0, 0), (16_384, 0))), Some(2));
+        assert_eq!(refusal(&Figure::Curve([(0, 0); 3], 7)), Some(4));
+        assert_eq!(refusal(&Figure::Curve([(0, 0); 3], 6)), None);
+        assert_eq!(refusal(&Figure::Line((0, 0), (16_384, 0))), Some(2));
     }
 }

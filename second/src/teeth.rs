@@ -20,7 +20,8 @@ pub fn wrong_programs() -> Vec<(&'static str, Rules)> {
         ("a coordinate of 16,384 is taken for 16,383", Rules { refusal: one_more, ..right }),
         ("a radius is refused before a coordinate", Rules { refusal: radius_first, ..right }),
         ("a semi-axis of 0 is drawn", Rules { refusal: flat, ..right }),
-        ("s = 7 is drawn as s = 6", Rules { refusal: seventh, ..right }),
+        ("a curve's middle control point may be outside the limits", Rules { refusal: middle_free, ..right }),
+        ("s = 7 is drawn", Rules { refusal: seventh, ..right }),
         ("a file is drawn as it is read", Rules { reads_first: false, ..right }),
         ("a refused file tells offset 0", Rules { tells_offset: false, ..right }),
     ]
@@ -81,31 +82,38 @@ fn nearest(q: f64) -> Option<i64> {
     crate::metres::cell((q + 0.5).floor())
 }
 
-fn one_more(rules: &Rules, figure: &Figure) -> Option<u32> {
+fn one_more(figure: &Figure) -> Option<u32> {
     let less = |(x, y): Cell| (if x == 16_384 { 16_383 } else { x }, if y == 16_384 { 16_383 } else { y });
     match *figure {
-        Figure::Line(from, to) => refusal(rules, &Figure::Line(less(from), less(to))),
-        _ => refusal(rules, figure),
+        Figure::Line(from, to) => refusal(&Figure::Line(less(from), less(to))),
+        _ => refusal(figure),
     }
 }
 
-fn radius_first(rules: &Rules, figure: &Figure) -> Option<u32> {
+fn radius_first(figure: &Figure) -> Option<u32> {
     match *figure {
-        Figure::Circle(_, r) => refusal(rules, &Figure::Circle((0, 0), r)).or_else(|| refusal(rules, figure)),
-        _ => refusal(rules, figure),
+        Figure::Circle(_, r) => refusal(&Figure::Circle((0, 0), r)).or_else(|| refusal(figure)),
+        _ => refusal(figure),
     }
 }
 
-fn flat(rules: &Rules, figure: &Figure) -> Option<u32> {
+fn flat(figure: &Figure) -> Option<u32> {
     match *figure {
-        Figure::Ellipse(centre, a, b) => refusal(rules, &Figure::Ellipse(centre, a.max(1), b.max(1))),
-        _ => refusal(rules, figure),
+        Figure::Ellipse(centre, a, b) => refusal(&Figure::Ellipse(centre, a.max(1), b.max(1))),
+        _ => refusal(figure),
     }
 }
 
-fn seventh(rules: &Rules, figure: &Figure) -> Option<u32> {
+fn middle_free(figure: &Figure) -> Option<u32> {
     match *figure {
-        Figure::Curve(points, 7) => refusal(rules, &Figure::Curve(points, 6)),
-        _ => refusal(rules, figure),
+        Figure::Curve([p0, _, p2], s) => refusal(&Figure::Curve([p0, p0, p2], s)),
+        _ => refusal(figure),
+    }
+}
+
+fn seventh(figure: &Figure) -> Option<u32> {
+    match *figure {
+        Figure::Curve(points, 7) => refusal(&Figure::Curve(points, 6)),
+        _ => refusal(figure),
     }
 }

@@ -13,7 +13,7 @@ unfoldable pub allInLimits : List Cell → Bool
 allInLimits [] = true
 allInLimits (c ∷ cs) = inLimits c && allInLimits cs
 
--- 1, 2, 4, else 0, for a slice of n bytes
+-- 1, 2 for a control point, 4, else 0, for a slice of n bytes
 unfoldable pub curveAnswer : Shape → ℕ → List Cell → ℕ → Answer
 curveAnswer k n ps s =
     unless (fits k n) Size

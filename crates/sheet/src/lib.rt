@@ -30,7 +30,7 @@ pub struct Shape {
 pub enum Refusal {
     // 1: a sheet size is outside its limits, or the slice length differs from width × height.
     Size,
-    // 2: a coordinate, or a joined point of a curve, is outside its limits.
+    // 2: a coordinate is outside its limits; a curve has those of its control points.
     Coordinate,
     // 3: a radius or semi-axis is outside its limits.
     Radius,
