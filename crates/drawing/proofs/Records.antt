@@ -1,6 +1,6 @@
 -- Drawing the records of a file: the loop of `draw_records`, and the answer and the sheet at each return of `draw_file`.
 use Prim.Native.Nat.{ℕ, _≤_}
-use mathlib.Core.Path.{_≡_, refl, sym, ap, _∙_}
+use mathlib.Core.Path.{_≡_, refl, sym, subst, ap, _∙_}
 use mathlib.Core.List.{List, [], _∷_}
 use mathlib.Core.Bool.{true, false, true≢false}
 use native.Mathlib.Omega.{arith}
@@ -18,7 +18,7 @@ use Rattle.record.specs.File.{Contents, holds, refuses, also, readFrom, readAll
 use Rattle.record.specs.declared.types.Record.{Record}
 use Rattle.record.specs.declared.types.Read.{Read}
 use Rattle.record.specs.declared.types.Read.the-variants as read
-use Rattle.record.proofs.Onward.{NoRecord, is-record, from-record, from-end, from-refusal}
+use Rattle.record.proofs.Onward.{NoRecord, never, from-record, from-end, from-refusal}
 use Rattle.record.proofs.Stands.{stands}
 use Rattle.drawing.specs.Figure.{onFigure}
 use Rattle.drawing.specs.File.{recordsOf, paintAll, drawFileAnswer}
@@ -67,7 +67,7 @@ module _ (k : Shape) (s sheet₀ sheet : List ℕ) (at : ℕ) (h : Drawing k s s
       let p = stands s at r e in
       let rest = readFrom s (r .next) in
       let on = from-record s at r e in
-      let accepted : Accepted rest = accepted-rest r rest (ap (λ (c : Contents). eqb (contentsAnswer c .number) 0) (sym on) ∙ h .accepted) in
+      let accepted : Accepted rest = accepted-rest r rest (subst Accepted on (h .accepted)) in
       let first : recordsOf (readFrom s at) ≡ r ∷ recordsOf rest = ap recordsOf on ∙ records-also r rest accepted in
       let fitting : fits k (length sheet) ≡ true = ap (fits k) (h .kept) ∙ f in
       let drawn : t ≡ paint k (r .ink) (onFigure (r .figure)) sheet = g ∙ figure-drawn k (length sheet) (r .figure) _ sheet fitting (p .sound) in
@@ -84,11 +84,10 @@ module _ (k : Shape) (s sheet₀ sheet : List ℕ) (at : ℕ) (h : Drawing k s s
 
   -- where the reading ends all is drawn
   pub closes : (q : Read) → q ≡ readAt s at → NoRecord q → sheet ≡ paintAll k (recordsOf (readAll s)) sheet₀
-  closes (read.Record r) e n = absurd (is-record r n)
+  closes (read.Record r) e n = absurd (never r n)
   closes read.End e n =
       sym (ap (λ (c : Contents). paintAll k (recordsOf c) sheet) (from-end s at e) ∙ paint-no k sheet) ∙ h .painted
-  closes (read.Refused q o) e n =
-      absurd (not-refused q o (ap (λ (c : Contents). eqb (contentsAnswer c .number) 0) (sym (from-refusal s at q o e)) ∙ h .accepted))
+  closes (read.Refused q o) e n = absurd (not-refused q o (subst Accepted (from-refusal s at q o e) (h .accepted)))
 
 module _ (k : Shape) (s sheet : List ℕ) where
   -- what a reply tells and leaves

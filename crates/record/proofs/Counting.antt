@@ -13,7 +13,7 @@ use Rattle.record.specs.declared.types.Record.{Record}
 use Rattle.record.specs.declared.types.Read.{Read}
 use Rattle.record.specs.declared.types.Read.the-variants as read
 use Rattle.record.proofs.Stands.{stands}
-use Rattle.record.proofs.Onward.{NoRecord, is-record, from-record, from-end, from-refusal}
+use Rattle.record.proofs.Onward.{NoRecord, never, from-record, from-end, from-refusal}
 
 -- the answer of contents that stand after n records
 abbrev pub answerAfter : ℕ → Contents → Answer
@@ -49,7 +49,7 @@ module _ (s : List ℕ) (count at : ℕ) (h : Counting s count at) where
 
   -- the end and a refusal close the reading; a record does not
   pub closes : (q : Read) → q ≡ readAt s at → NoRecord q → toldChecked (closedBy q count) ≡ fileAnswer s
-  closes (read.Record r) e t = absurd (is-record r t)
+  closes (read.Record r) e t = absurd (never r t)
   closes read.End e t =
       let n : count ≡ count + 0 = omega arith in
       ap (λ (n : ℕ). done (pos n ∷ [])) n ∙ ap (answerAfter count) (sym (from-end s at e)) ∙ h .whole

@@ -19,9 +19,9 @@ use Rattle.record.proofs.Stands.{stands}
 abbrev pub NoRecord : Read → Type 0
 NoRecord q = (tagOf (declared enum) q ≡ 1) ⊎ (tagOf (declared enum) q ≡ 2)
 
-pub is-record : (r : Record) → NoRecord (read.Record r) → ⊥
-is-record r (inl t) = let z : _≡_ {A = ℕ} 0 1 = t in omega arith
-is-record r (inr t) = let z : _≡_ {A = ℕ} 0 2 = t in omega arith
+pub never : (r : Record) → NoRecord (read.Record r) → ⊥
+never r (inl t) = let z : _≡_ {A = ℕ} 0 1 = t in omega arith
+never r (inr t) = let z : _≡_ {A = ℕ} 0 2 = t in omega arith
 
 -- what follows matters only after a record
 onward-as : (f g : ℕ → Contents) (q : Read) → ((r : Record) → read.Record r ≡ q → f (r .next) ≡ g (r .next)) → onward f q ≡ onward g q
