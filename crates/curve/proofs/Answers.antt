@@ -6,22 +6,21 @@ use mathlib.Core.Bool.{Bool, true, false, _&&_, and-true}
 use native.Mathlib.Omega.{arith}
 use borrow.Author.Tests.{le-leb, lt-leb}
 use lib.ListN.{length}
-use lib.Pow.{pow-pos}
 use Rattle.laws.proofs.Below.{any-as}
 use Rattle.laws.proofs.Tests.{from-true}
 use Rattle.sheet.specs.Sheet.{fits, inLimits, cellOf, paint}
 use Rattle.sheet.specs.Reply.{done, refuse, settled}
-use Rattle.sheet.specs.Inner.{moved, unmovedCell}
+use Rattle.sheet.specs.Inner.{movedCell, unmovedCell}
 use Rattle.sheet.specs.declared.Cell.{Cell}
 use Rattle.sheet.specs.declared.Shape.{Shape}
 use Rattle.sheet.specs.declared.Refusal.the-variants.{Size, Coordinate, Pieces}
-use Rattle.sheet.proofs.Limits.{lift-in, limits-x, limits-y}
+use Rattle.sheet.proofs.Limits.{LiftedCell, lifted-cell}
 use Rattle.sheet.proofs.Paint.{paint-as}
 use Rattle.line.specs.Rule.{onLine}
 use Rattle.curve.specs.Rule.{pointAt, onCurve}
 use Rattle.curve.specs.Draw.{allInLimits, curveAnswer}
 use Rattle.curve.specs.Inner.{jointAt, controlsOf, Bends, firstPieces}
-use Rattle.curve.proofs.Points.{coordinate-moved}
+use Rattle.curve.proofs.Points.{joint-is}
 
 -- three tests, each of which is one of the control points
 pub three-in : (a b c : Cell) → (inLimits a && (inLimits b && inLimits c)) ≡ allInLimits (a ∷ b ∷ c ∷ [])
@@ -37,26 +36,27 @@ module _ (a b c : Cell) (l : allInLimits (a ∷ b ∷ c ∷ []) ≡ true) where
       by true false v e = absurd (from-true false e)
       by false u v e = absurd (from-true false e)
 
+  lifted : (d : Cell) → inLimits d ≡ true → LiftedCell d (movedCell d)
+  lifted d e = lifted-cell d (movedCell d) e refl
+
   pub bends : Bends (controlsOf a b c)
   bends =
       let e = all-three in
       record {
-        x0-in = lift-in (a .x) (moved (a .x)) (limits-x a (e .0)) refl .inside;
-        x1-in = lift-in (b .x) (moved (b .x)) (limits-x b (e .1)) refl .inside;
-        x2-in = lift-in (c .x) (moved (c .x)) (limits-x c (e .2)) refl .inside;
-        y0-in = lift-in (a .y) (moved (a .y)) (limits-y a (e .0)) refl .inside;
-        y1-in = lift-in (b .y) (moved (b .y)) (limits-y b (e .1)) refl .inside;
-        y2-in = lift-in (c .y) (moved (c .y)) (limits-y c (e .2)) refl .inside;
+        x0-in = lifted a (e .0) .inside-x;
+        x1-in = lifted b (e .1) .inside-x;
+        x2-in = lifted c (e .2) .inside-x;
+        y0-in = lifted a (e .0) .inside-y;
+        y1-in = lifted b (e .1) .inside-y;
+        y2-in = lifted c (e .2) .inside-y;
       }
 
   -- the points that the code finds are the rule's
   point-is : (s i : ℕ) → i ≤ 2 ^ s → unmovedCell (jointAt (controlsOf a b c) s i) ≡ pointAt (a ∷ b ∷ c ∷ []) (2 ^ s) i
-  unfolding jointAt pointAt
   point-is s i m =
       let e = all-three in
-      let x = coordinate-moved (2 ^ s) i (a .x) (b .x) (c .x) (moved (a .x)) (moved (b .x)) (moved (c .x)) (pow-pos s) m (lift-in (a .x) (moved (a .x)) (limits-x a (e .0)) refl .stands) (lift-in (b .x) (moved (b .x)) (limits-x b (e .1)) refl .stands) (lift-in (c .x) (moved (c .x)) (limits-x c (e .2)) refl .stands) in
-      let y = coordinate-moved (2 ^ s) i (a .y) (b .y) (c .y) (moved (a .y)) (moved (b .y)) (moved (c .y)) (pow-pos s) m (lift-in (a .y) (moved (a .y)) (limits-y a (e .0)) refl .stands) (lift-in (b .y) (moved (b .y)) (limits-y b (e .1)) refl .stands) (lift-in (c .y) (moved (c .y)) (limits-y c (e .2)) refl .stands) in
-      λ t. record { x = sym x t; y = sym y t }
+      joint-is (controlsOf a b c) s i m
+      ∙ (λ t. pointAt (lifted a (e .0) .stands t ∷ lifted b (e .1) .stands t ∷ lifted c (e .2) .stands t ∷ []) (2 ^ s) i)
 
   -- and so is the union of their lines
   pieces-are : (s : ℕ) (d : Cell) → firstPieces (controlsOf a b c) s (2 ^ s) d ≡ onCurve (a ∷ b ∷ c ∷ []) s d

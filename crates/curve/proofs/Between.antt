@@ -1,6 +1,6 @@
 -- No point of a curve leaves the limits, whatever the number of its control points: each coordinate lies between the least and the greatest control value.
 use Prim.Native.Nat.{ℕ, zero, suc, _-_, _^_, _≤_, _<_}
-use mathlib.Core.Path.{_≡_, refl, subst, ap, _∙_}
+use mathlib.Core.Path.{_≡_, subst, ap, _∙_}
 use mathlib.Core.List.{List, [], _∷_, map}
 use mathlib.Core.Bool.{true, _&&_}
 use native.Mathlib.Omega.{arith}
@@ -11,16 +11,17 @@ use lib.Pow.{pow-pos}
 use Rattle.laws.proofs.Ints.{one-zero, from-≤ℤ, to-≤ℤ}
 use Rattle.laws.proofs.Tests.{and-l, and-r, is-true, from-true}
 use Rattle.sheet.specs.Sheet.{coordinate, inLimits}
-use Rattle.sheet.specs.Inner.{Moved, unmoved, unmovedCell}
+use Rattle.sheet.specs.Inner.{unmovedCell}
 use Rattle.sheet.specs.declared.Cell.{Cell}
+use Rattle.sheet.specs.declared.Spot.{Spot}
 use Rattle.sheet.proofs.Limits.{limit-low, limit-high, limit-in, limits-x, limits-y, moved-in}
 use Rattle.curve.specs.Rule.{blend, rounded, degree, coordinateAt, pointAt}
 use Rattle.curve.specs.Draw.{allInLimits}
-use Rattle.curve.specs.Inner.{jointOf, jointAt, Bends}
+use Rattle.curve.specs.Inner.{jointAt, Bends}
 use Rattle.curve.specs.declared.Controls.{Controls}
 use Rattle.curve.proofs.Blend.{blend-one, blend-grows}
 use Rattle.curve.proofs.Round.{rounded-whole, rounded-grows}
-use Rattle.curve.proofs.Points.{pow-above, coordinate-moved}
+use Rattle.curve.proofs.Points.{pow-above, cellsOf, joint-is}
 
 -- no value of a list is below low or above high: the closest such numbers are its least and its greatest value
 abbrev pub Between : ℤ → ℤ → List ℤ → Type 0
@@ -73,18 +74,12 @@ point-in-limits ps n i l above m e = λ t. by (λ c. c .x) limits-x t && by (λ 
     by : (of : Cell → ℤ) → ((c : Cell) → inLimits c ≡ true → coordinate (of c) ≡ true) → coordinate (coordinateAt (map of ps) n i) ≡ true
     by of f = coordinate-in (map of ps) n i (omega (arith, length-map ps of)) above m (λ j h. each-in of f ps j e (omega (arith, length-map ps of)))
 
--- and so have the points as the code finds them
-pub joint-in : (c : Controls) (s i : ℕ) → Bends c → i ≤ 2 ^ s → inLimits (unmovedCell (jointAt c s i)) ≡ true
-unfolding inLimits jointAt
-joint-in c s i h m = λ t. by (c .x0) (c .x1) (c .x2) (h .x0-in) (h .x1-in) (h .x2-in) t && by (c .y0) (c .y1) (c .y2) (h .y0-in) (h .y1-in) (h .y2-in) t
-  where
-    by : (p q r : ℕ) → Moved p → Moved q → Moved r → coordinate (unmoved (jointOf p q r (2 ^ s) i)) ≡ true
-    by p q r a b d =
-        subst (λ (z : ℤ). coordinate z ≡ true) (coordinate-moved (2 ^ s) i (unmoved p) (unmoved q) (unmoved r) p q r (pow-pos s) m refl refl refl)
-        (coordinate-in (unmoved p ∷ unmoved q ∷ unmoved r ∷ []) (2 ^ s) i (omega arith) (pow-pos s) m each)
-      where
-        each : (j : ℕ) → j < 3 → coordinate (getD (unmoved p ∷ unmoved q ∷ unmoved r ∷ []) j (pos 0)) ≡ true
-        each zero k = moved-in p a
-        each (suc zero) k = moved-in q b
-        each (suc (suc zero)) k = moved-in r d
-        each (suc (suc (suc j))) k = absurd (omega arith)
+-- and so have the points as the code finds them, of control points within the limits
+pub joint-in : (c : Controls) (s i : ℕ) (p : Spot) → Bends c → i ≤ 2 ^ s → p ≡ jointAt c s i → inLimits (unmovedCell p) ≡ true
+unfolding allInLimits inLimits
+joint-in c s i p h m e =
+    ap (λ (p : Spot). inLimits (unmovedCell p)) e
+    ∙ ap inLimits (joint-is c s i m)
+    ∙ point-in-limits (cellsOf c) (2 ^ s) i (omega arith) (pow-pos s) m
+    (simp
+    (moved-in (c .x0) (h .x0-in), moved-in (c .y0) (h .y0-in), moved-in (c .x1) (h .x1-in), moved-in (c .y1) (h .y1-in), moved-in (c .x2) (h .x2-in), moved-in (c .y2) (h .y2-in)))

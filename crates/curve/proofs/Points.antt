@@ -1,18 +1,21 @@
 -- The points of a curve: the first and the last, backwards, and on the moved plane.
 use Prim.Native.Nat.{ℕ, zero, suc, _+_, _-_, _*_, _/_, _^_, _≤_, _<_}
-use mathlib.Core.Path.{_≡_, sym, ap, _∙_}
+use mathlib.Core.Path.{_≡_, refl, sym, ap, _∙_}
 use mathlib.Core.Logic.{_⊎_, inl, inr}
 use mathlib.Core.List.{List, [], _∷_, reverse, reverseAux}
 use native.Mathlib.Nat.{pow-zero, pow-succ', mul-le-mul}
 use native.Mathlib.Omega.{arith}
 use lib.ListN.{length, getD, length-reverse}
 use lib.IntN.{ℤ, pos}
+use lib.Pow.{pow-pos}
 use Rattle.laws.proofs.Parts.{up, dn}
 use Rattle.laws.proofs.Products.{lt-or-ge}
-use Rattle.sheet.specs.Inner.{unmoved}
+use Rattle.sheet.specs.Inner.{unmoved, unmovedCell}
 use Rattle.sheet.proofs.Limits.{stands-parts}
 use Rattle.sheet.specs.declared.Cell.{Cell}
 use Rattle.curve.specs.Rule.{blend, rounded, degree, coordinateAt, pointAt}
+use Rattle.curve.specs.Inner.{jointOf, jointAt}
+use Rattle.curve.specs.declared.Controls.{Controls}
 use Rattle.curve.proofs.Blend.{blendℕ, blend-moved, blend-three, blend-first, blend-last, blend-as, blend-back}
 use Rattle.curve.proofs.Round.{rounded-is, rounded-whole}
 
@@ -71,26 +74,37 @@ coordinate-reversed ps n i l m =
 square : (n : ℕ) → n ^ 2 ≡ n * n
 square n = pow-succ' n 1 ∙ ap (λ (t : ℕ). n * t) (pow-succ' n 0 ∙ ap (λ (t : ℕ). n * t) (pow-zero n)) ∙ omega arith
 
-pub coordinate-moved : (n i : ℕ) (z₀ z₁ z₂ : ℤ) (p₀ p₁ p₂ : ℕ) → 0 < n → i ≤ n → unmoved p₀ ≡ z₀ → unmoved p₁ ≡ z₁ → unmoved p₂ ≡ z₂
-    → coordinateAt (z₀ ∷ z₁ ∷ z₂ ∷ []) n i ≡ unmoved ((2 * ((n - i) * (n - i) * p₀ + 2 * (i * (n - i)) * p₁ + i * i * p₂) + n * n) / (2 * (n * n)))
+coordinate-moved : (n i p q r : ℕ) → 0 < n → i ≤ n → coordinateAt (unmoved p ∷ unmoved q ∷ unmoved r ∷ []) n i ≡ unmoved (jointOf p q r n i)
 unfolding coordinateAt
-coordinate-moved n i z₀ z₁ z₂ p₀ p₁ p₂ l m e₀ e₁ e₂ =
+coordinate-moved n i p q r l m =
     let b = blend-moved 2 n i values places 65536 m each in
     let f = blend-three n i places in
-    let q = square n in
-    rounded-is (blend 2 n i values) (n ^ 2) 65536 (blendℕ 2 n i places) (pow-above n 2 l) b ∙ (λ t. unmoved ((2 * f t + q t) / (2 * q t)))
+    let e = square n in
+    rounded-is (blend 2 n i values) (n ^ 2) 65536 (blendℕ 2 n i places) (pow-above n 2 l) b ∙ (λ t. unmoved ((2 * f t + e t) / (2 * e t)))
   where
     values : ℕ → ℤ
-    values j = getD (z₀ ∷ z₁ ∷ z₂ ∷ []) j (pos 0)
+    values j = getD (unmoved p ∷ unmoved q ∷ unmoved r ∷ []) j (pos 0)
 
     places : ℕ → ℕ
-    places j = getD (p₀ ∷ p₁ ∷ p₂ ∷ []) j 0
+    places j = getD (p ∷ q ∷ r ∷ []) j 0
 
     each : (j : ℕ) → j ≤ 2 → up (values j) + 65536 ≡ dn (values j) + places j
-    each zero h = stands-parts p₀ z₀ e₀
-    each (suc zero) h = stands-parts p₁ z₁ e₁
-    each (suc (suc zero)) h = stands-parts p₂ z₂ e₂
+    each zero h = stands-parts p (unmoved p) refl
+    each (suc zero) h = stands-parts q (unmoved q) refl
+    each (suc (suc zero)) h = stands-parts r (unmoved r) refl
     each (suc (suc (suc j))) h = absurd (omega arith)
+
+-- the cells that moved control points stand for, and each point as the code finds it
+abbrev pub cellsOf : Controls → List Cell
+cellsOf c =
+    unmovedCell (record { x = c .x0; y = c .y0 }) ∷ unmovedCell (record { x = c .x1; y = c .y1 }) ∷ unmovedCell (record { x = c .x2; y = c .y2 }) ∷ []
+
+pub joint-is : (c : Controls) (s i : ℕ) → i ≤ 2 ^ s → unmovedCell (jointAt c s i) ≡ pointAt (cellsOf c) (2 ^ s) i
+unfolding jointAt pointAt
+joint-is c s i m =
+    let x = coordinate-moved (2 ^ s) i (c .x0) (c .x1) (c .x2) (pow-pos s) m in
+    let y = coordinate-moved (2 ^ s) i (c .y0) (c .y1) (c .y2) (pow-pos s) m in
+    λ t. record { x = sym x t; y = sym y t }
 
 -- the same of points: the first and the last, and those of the control points reversed
 module _ (a b c : Cell) (n : ℕ) (l : 0 < n) where

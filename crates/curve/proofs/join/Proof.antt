@@ -1,13 +1,8 @@
 -- `curve::join` meets its contract.
-use Prim.Native.Nat.{ℕ, _-_, _^_, _≤_}
-use mathlib.Core.Path.{_≡_, sym, ap, _∙_}
-use mathlib.Core.Bool.{true}
+use Prim.Native.Nat.{_-_}
+use mathlib.Core.Path.{sym, _∙_}
 use native.Mathlib.Omega.{arith}
 use denote.Ref.{now}
-use Rattle.sheet.specs.Sheet.{inLimits}
-use Rattle.sheet.specs.Inner.{unmovedCell}
-use Rattle.sheet.specs.declared.Spot.{Spot}
-use Rattle.curve.specs.Inner.{jointAt}
 use Rattle.curve.proofs.Between.{joint-in}
 use Rattle.curve.proofs.Joining.{Joining, begins, turn, ends}
 use Rattle.curve.proofs.join.Statement.{statement}
@@ -47,9 +42,10 @@ piece-requires c κs =
     let start = counted .before .before in
     let a = start .args in
     let g = head .loop .inv in
-    let in-limits : (p : Spot) (i : ℕ) → p ≡ jointAt (a .controls) (a .s) i → i ≤ 2 ^ a .s → inLimits (unmovedCell p) ≡ true =
-    λ p i e m. ap (λ (p : Spot). inLimits (unmovedCell p)) e ∙ joint-in (a .controls) (a .s) i (start .pre .1) m in
-    (g .sized, (in-limits _ _ (g .from-is) (g .low), in-limits _ _ (c .before .joint-at2 .ensures) (omega (arith, counted .pieces .ensures .0))))
+    let bent = start .pre .1 in
+    let from = joint-in (a .controls) (a .s) (head .loop .i) (head .loop .from) bent (g .low) (g .from-is) in
+    let to = joint-in (a .controls) (a .s) _ _ bent (omega (arith, counted .pieces .ensures .0)) (c .before .joint-at2 .ensures) in
+    (g .sized, (from, to))
 
 loop-less : tie.Need-loop-less Inv-loop μ-loop
 loop-less c = omega arith
