@@ -6,7 +6,7 @@ use native.Mathlib.Omega.{arith}
 use native.Mathlib.Nat.{div-add-mod', mul-comm}
 use lib.Arith.{digits-lt, digits-div, digits-mod}
 use lib.Dec.{T, leb, ltb, ltb→lt, lt→ltb, le→leb}
-use lib.IntN.{ℤ, pos}
+use lib.IntN.{pos}
 use lib.Signed.{leZ, ltZ}
 use Rattle.laws.specs.Equal.{eqZ}
 use Rattle.laws.proofs.Parts.{up}
