@@ -35,9 +35,14 @@ class Function:
     body: str
 
 
+def bare(name):
+    """a function's name without its type"""
+    return name.rpartition("::")[2]
+
+
 @functools.cache
 def functions(crate):
-    """the functions of a crate, each by its bare name"""
+    """the functions of a crate, each by its name, with its type where it has one"""
     found = {}
     for source in sorted((ROOT / "crates" / crate / "src").rglob("*.rt")):
         lines, kind = source.read_text().splitlines(), ""
@@ -50,19 +55,20 @@ def functions(crate):
                 last = lines.index(head[1] + "}", number)
                 where = str(source.relative_to(ROOT / "crates" / crate))
                 body = "\n".join(lines[number + 1:last])
-                found[head[3]] = Function(f"{crate}::{kind}{head[3]}", bool(head[2]), where, range(number + 1, last + 2), body)
+                name = kind + head[3]
+                found[name] = Function(f"{crate}::{name}", bool(head[2]), where, range(number + 1, last + 2), body)
     return found
 
 
 def own_code(all_functions, name):
-    """the bare names of a function and of the private functions that it reaches by calls"""
+    """the names of a function and of the private functions that it reaches by calls"""
     reached, ahead = set(), [name]
     while ahead:
         name = ahead.pop()
         reached.add(name)
         for owner, called in re.findall(r"(?:(\w+)::)?\b(\w+)\(", all_functions[name].body):
-            if owner not in crates() and called in all_functions and called not in reached and not all_functions[called].public:
-                ahead.append(called)
+            if owner not in crates():
+                ahead += [f for f in all_functions if bare(f) == called and f not in reached and not all_functions[f].public]
     return reached
 
 
@@ -109,7 +115,7 @@ def entries(problems):
 
 
 def changed_functions(entry, problems):
-    """the bare names of the functions that an entry changes"""
+    """the names of the functions that an entry changes"""
     found, all_functions = set(), functions(entry.crate)
     for file, old, _ in entry.changes:
         text = (ROOT / "crates" / entry.crate / file).read_text()
@@ -190,14 +196,14 @@ def check_altered(entry, problems):
 
 def check_wrong(entry, problems):
     """what it changes is the function's own code, and what fails is a fact of what it changes"""
-    all_functions, bare = functions(entry.crate), entry.subject.split("::")[-1]
-    if bare not in all_functions or all_functions[bare].name != entry.subject or not all_functions[bare].public:
+    all_functions, wrong = functions(entry.crate), entry.subject.partition("::")[2]
+    if wrong not in all_functions or all_functions[wrong].name != entry.subject or not all_functions[wrong].public:
         problems.append(f"{entry}: no such public function")
         return
     changed = changed_functions(entry, problems)
-    for name in changed - own_code(all_functions, bare):
-        problems.append(f"{entry}: changes {name}, which is no code of {bare}")
+    for name in changed - own_code(all_functions, wrong):
+        problems.append(f"{entry}: changes {name}, which is no code of {wrong}")
     for place in entry.places:
         file, *function, _ = place.split()
-        if (function or [file.split("/")[-1]])[0] not in changed:
+        if not (changed.intersection(function) or file.split("/")[-1] in map(bare, changed)):
             problems.append(f"{entry}: {place} is no fact of what it changes")
