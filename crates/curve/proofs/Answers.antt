@@ -1,24 +1,24 @@
--- The answer and the sheet at each return of `draw_curve`.
-use Prim.Native.Nat.{ℕ, _+_, _^_, _≤_, _<_}
+-- A curve that is drawn, by the control points that the code lifts.
+use Prim.Native.Nat.{ℕ, _+_, _^_, _≤_}
 use mathlib.Core.Path.{_≡_, refl, sym, ap, _∙_}
 use mathlib.Core.List.{List, [], _∷_}
-use mathlib.Core.Bool.{Bool, true, false, _&&_, and-true}
+use mathlib.Core.Bool.{Bool, true, _&&_, and-true}
 use native.Mathlib.Omega.{arith}
-use borrow.Author.Tests.{le-leb, lt-leb}
 use lib.ListN.{length}
 use Rattle.laws.proofs.Below.{any-as}
-use Rattle.laws.proofs.Tests.{from-true}
-use Rattle.sheet.specs.Sheet.{fits, inLimits, cellOf, paint}
-use Rattle.sheet.specs.Reply.{done, refuse, settled}
+use Rattle.laws.proofs.Tests.{halves}
+use Rattle.sheet.specs.Sheet.{fits, inLimits, cellOf, paint, split}
+use Rattle.sheet.specs.Reply.{done}
+use Rattle.sheet.specs.Drawing.{Draws}
 use Rattle.sheet.specs.Inner.{movedCell, unmovedCell}
 use Rattle.sheet.specs.declared.Cell.{Cell}
 use Rattle.sheet.specs.declared.Shape.{Shape}
-use Rattle.sheet.specs.declared.Refusal.the-variants.{Size, Coordinate, Pieces}
+use Rattle.sheet.proofs.Draws.{draws}
 use Rattle.sheet.proofs.Limits.{LiftedCell, lifted-cell}
 use Rattle.sheet.proofs.Paint.{paint-as}
 use Rattle.line.specs.Rule.{onLine}
 use Rattle.curve.specs.Rule.{pointAt, onCurve}
-use Rattle.curve.specs.Draw.{allInLimits, curveAnswer}
+use Rattle.curve.specs.Draw.{allInLimits, curveAnswer, curveDrawing}
 use Rattle.curve.specs.Inner.{jointAt, controlsOf, Bends, firstPieces}
 use Rattle.curve.proofs.Points.{joint-is}
 
@@ -29,12 +29,10 @@ three-in a b c = ap (λ (t : Bool). inLimits a && (inLimits b && t)) (sym (and-t
 
 module _ (a b c : Cell) (l : allInLimits (a ∷ b ∷ c ∷ []) ≡ true) where
   all-three : (inLimits a ≡ true) × (inLimits b ≡ true) × (inLimits c ≡ true)
-  all-three = by (inLimits a) (inLimits b) (inLimits c) (three-in a b c ∙ l)
-    where
-      by : (t u v : Bool) → (t && (u && v)) ≡ true → (t ≡ true) × (u ≡ true) × (v ≡ true)
-      by true true v e = (refl, refl, e)
-      by true false v e = absurd (from-true false e)
-      by false u v e = absurd (from-true false e)
+  all-three =
+      let h = halves (inLimits a) (inLimits b && inLimits c) (three-in a b c ∙ l) in
+      let g = halves (inLimits b) (inLimits c) (h .1) in
+      (h .0, g .0, g .1)
 
   lifted : (d : Cell) → inLimits d ≡ true → LiftedCell d (movedCell d)
   lifted d e = lifted-cell d (movedCell d) e refl
@@ -63,25 +61,10 @@ module _ (a b c : Cell) (l : allInLimits (a ∷ b ∷ c ∷ []) ≡ true) where
   unfolding firstPieces onCurve
   pieces-are s d = any-as (2 ^ s) _ _ (λ i m t. onLine (point-is s i (omega arith) t) (point-is s (i + 1) (omega arith) t) d)
 
-module _ (k : Shape) (ink : ℕ) (a b c : Cell) (s : ℕ) (sheet : List ℕ) where
-  abbrev Left : List ℕ → Type 0
-  Left t = t ≡ settled (curveAnswer k (length sheet) (a ∷ b ∷ c ∷ []) s) (paint k ink (onCurve (a ∷ b ∷ c ∷ []) s) sheet) sheet
-
-  pub curve-size : fits k (length sheet) ≡ false → (refuse Size ≡ curveAnswer k (length sheet) (a ∷ b ∷ c ∷ []) s) × Left sheet
-  unfolding curveAnswer
-  curve-size e = simp e (refl, refl)
-
-  pub curve-control : fits k (length sheet) ≡ true → allInLimits (a ∷ b ∷ c ∷ []) ≡ false → (refuse Coordinate ≡ curveAnswer k (length sheet) (a ∷ b ∷ c ∷ []) s) × Left sheet
-  unfolding curveAnswer
-  curve-control e f = simp (e, f) (refl, refl)
-
-  pub curve-pieces : fits k (length sheet) ≡ true → allInLimits (a ∷ b ∷ c ∷ []) ≡ true → 6 < s → (refuse Pieces ≡ curveAnswer k (length sheet) (a ∷ b ∷ c ∷ []) s) × Left sheet
-  unfolding curveAnswer
-  curve-pieces e f g = simp (e, f, lt-leb s 6 g) (refl, refl)
-
-  pub curve-done : fits k (length sheet) ≡ true → allInLimits (a ∷ b ∷ c ∷ []) ≡ true → s ≤ 6
-      → (t : List ℕ) → t ≡ paint k ink (firstPieces (controlsOf a b c) s (2 ^ s)) sheet
-      → (done [] ≡ curveAnswer k (length sheet) (a ∷ b ∷ c ∷ []) s) × Left t
-  unfolding curveAnswer
-  curve-done e f g t u =
-      simp (e, f, le-leb s 6 g) (refl, u ∙ paint-as k ink _ _ sheet (λ x y v w. pieces-are a b c f s (cellOf x y)))
+-- a curve within the limits, drawn on a sheet that fits
+pub curve-done : (k : Shape) (ink : ℕ) (a b c : Cell) (s : ℕ) (sheet t : List ℕ) → fits k (length sheet) ≡ true → allInLimits (a ∷ b ∷ c ∷ []) ≡ true
+    → split s ≡ true → t ≡ paint k ink (firstPieces (controlsOf a b c) s (2 ^ s)) sheet
+    → Draws (curveDrawing k ink (a ∷ b ∷ c ∷ []) s) sheet (done []) t
+unfolding curveAnswer
+curve-done k ink a b c s sheet t e f g u =
+    draws _ sheet [] t (simp (e, f, g)) (u ∙ paint-as k ink _ _ sheet (λ x y v w. pieces-are a b c f s (cellOf x y)))

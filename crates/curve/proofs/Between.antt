@@ -9,7 +9,7 @@ use lib.IntN.{ℤ, pos, negsuc}
 use lib.Signed.{_≤ℤ_}
 use lib.Pow.{pow-pos}
 use Rattle.laws.proofs.Ints.{one-zero, from-≤ℤ, to-≤ℤ}
-use Rattle.laws.proofs.Tests.{and-l, and-r, is-true, from-true}
+use Rattle.laws.proofs.Tests.{halves}
 use Rattle.sheet.specs.Sheet.{coordinate, inLimits}
 use Rattle.sheet.specs.Inner.{unmovedCell}
 use Rattle.sheet.specs.declared.Cell.{Cell}
@@ -63,8 +63,8 @@ each-in : (of : Cell → ℤ) → ((c : Cell) → inLimits c ≡ true → coordi
     → (ps : List Cell) (j : ℕ) → allInLimits ps ≡ true → j < length ps → coordinate (getD (map of ps) j (pos 0)) ≡ true
 unfolding allInLimits
 each-in of f [] j e h = absurd (omega arith)
-each-in of f (c ∷ ps) zero e h = f c (is-true (inLimits c) (and-l (inLimits c) (allInLimits ps) (from-true _ e)))
-each-in of f (c ∷ ps) (suc j) e h = each-in of f ps j (is-true (allInLimits ps) (and-r (inLimits c) (allInLimits ps) (from-true _ e))) (omega arith)
+each-in of f (c ∷ ps) zero e h = f c (halves (inLimits c) (allInLimits ps) e .0)
+each-in of f (c ∷ ps) (suc j) e h = each-in of f ps j (halves (inLimits c) (allInLimits ps) e .1) (omega arith)
 
 -- a curve with its control points within the limits has all its points within them
 pub point-in-limits : (ps : List Cell) (n i : ℕ) → 0 < length ps → 0 < n → i ≤ n → allInLimits ps ≡ true → inLimits (pointAt ps n i) ≡ true

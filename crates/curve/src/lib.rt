@@ -3,18 +3,16 @@ ghost use mathlib.Core.Path.{_≡_};
 ghost use mathlib.Core.Bool.{true};
 ghost use mathlib.Core.List.{[], _∷_};
 ghost use Prim.Native.Nat.{_^_, _≤_};
-ghost use lib.ListN.{length};
 ghost use Rattle.sheet.specs.Sheet.{inLimits, paint};
-ghost use Rattle.sheet.specs.Reply.{settled};
-ghost use Rattle.sheet.specs.Drawn.{toldDrawn};
+ghost use Rattle.sheet.specs.Reply.{told};
+ghost use Rattle.sheet.specs.Drawing.{Draws};
 ghost use Rattle.sheet.specs.Inner.{Moved, Sheet, unmovedCell};
 ghost use Rattle.line.specs.Rule.{onLine};
-ghost use Rattle.curve.specs.Rule.{onCurve};
-ghost use Rattle.curve.specs.Draw.{allInLimits, curveAnswer};
+ghost use Rattle.curve.specs.Draw.{allInLimits, curveDrawing};
 ghost use Rattle.curve.specs.Inner.{jointOf, jointAt, Bends, controlsOf, firstPieces};
 use sheet::Cell;
-use sheet::Drawn;
 use sheet::Refusal;
+use sheet::Reply;
 use sheet::Shape;
 use sheet::Spot;
 
@@ -122,20 +120,19 @@ pub fn draw_curve(
     p1: Cell,
     p2: Cell,
     s: u32,
-) -> Drawn
-    ensures { λ r. ⌜ toldDrawn r ≡ curveAnswer shape (length (now (sheet .entry))) (p0 ∷ p1 ∷ p2 ∷ []) s ⌝ }
-    ensures { λ r. ⌜ now (sheet .exit) ≡ settled (curveAnswer shape (length (now (sheet .entry))) (p0 ∷ p1 ∷ p2 ∷ []) s) (paint shape ink (onCurve (p0 ∷ p1 ∷ p2 ∷ []) s) (now (sheet .entry))) (now (sheet .entry)) ⌝ }
+) -> Reply
+    ensures { λ r. ⌜ Draws (curveDrawing shape ink (p0 ∷ p1 ∷ p2 ∷ []) s) (now (sheet .entry)) (told r) (now (sheet .exit)) ⌝ }
 {
     if !sheet::fits(shape, sheet.len()) {
-        return Drawn::Refused(Refusal::Size);
+        return Reply::Refused(Refusal::Size);
     }
     if !in_limits(p0, p1, p2) {
-        return Drawn::Refused(Refusal::Coordinate);
+        return Reply::Refused(Refusal::Coordinate);
     }
-    if 6 < s {
-        return Drawn::Refused(Refusal::Pieces);
+    if !sheet::is_split(s) {
+        return Reply::Refused(Refusal::Pieces);
     }
     let controls = controls_of(p0, p1, p2);
     join(sheet, shape, ink, controls, s);
-    Drawn::Done
+    Reply::Done
 }

@@ -1,7 +1,7 @@
 -- One agreed boundary, drawn from either end and in any order, has the same answers and leaves the same bytes.
 use Prim.Native.Nat.{ℕ}
 use mathlib.Core.Path.{_≡_, refl, sym, subst, ap, _∙_}
-use mathlib.Core.List.{List, [], _∷_}
+use mathlib.Core.List.{List, [], _∷_, map}
 use mathlib.Core.Logic.{inl, inr}
 use mathlib.Core.Bool.{Bool, true, false, cond, _||_, and-comm}
 use lib.Dec.{T}
@@ -9,51 +9,49 @@ use lib.IntN.{pos}
 use lib.Ieee.{Float}
 use lib.ListN.{length}
 use Rattle.laws.proofs.Tests.{or-l, or-r, or-e, same}
-use Rattle.sheet.specs.Sheet.{fits, inLimits, cellOf, paint, cellsOn}
-use Rattle.sheet.specs.Reply.{done, unless, settled}
+use Rattle.sheet.specs.Sheet.{fits, inLimits, cell, cellOf, paint, cellsOn}
+use Rattle.sheet.specs.Reply.{Answer, done, refuseAt, unless, settled}
+use Rattle.sheet.specs.Drawing.{only, paintAll, Draws}
 use Rattle.sheet.specs.declared.Cell.{Cell}
 use Rattle.sheet.specs.declared.Shape.{Shape}
+use Rattle.sheet.specs.declared.Figure.{Figure}
 use Rattle.sheet.specs.declared.Refusal.the-variants.{Size, Coordinate}
 use Rattle.sheet.specs.declared.Refusal.the-variants as refusal
 use Rattle.sheet.proofs.Paint.{paint-as, paint-none, paint-then}
 use Rattle.line.specs.Rule.{onLine}
-use Rattle.line.specs.Draw.{lineAnswer}
+use Rattle.line.specs.Draw.{lineAnswer, lineDrawing}
 use Rattle.line.proofs.OnLine.{onLine-either}
 use Rattle.curve.proofs.Reversed.{on-curve-either}
-use Rattle.survey.specs.Metres.{sound, cell, eastward, northward, lineOf, figureIn, inCells}
+use Rattle.survey.specs.Metres.{sound, eastward, northward, lineOf, figureIn, inCells}
 use Rattle.survey.specs.declared.Found.{Found}
 use Rattle.survey.specs.declared.Found.the-variants.{At, NoCell}
 use Rattle.survey.specs.declared.Survey.{Survey}
 use Rattle.survey.specs.declared.Metres.the-variants as metres
-use Rattle.survey.specs.declared.InCells.{InCells}
 use Rattle.survey.specs.declared.InCells.the-variants as cells
-use Rattle.record.specs.Reading.{refuseAt}
 use Rattle.record.specs.File.{Contents, holds, readAll, contentsAnswer, fileAnswer}
-use Rattle.record.specs.declared.types.Figure.{Figure}
 use Rattle.record.specs.declared.types.Record.{Record}
 use Rattle.drawing.specs.Figure.{onFigure}
-use Rattle.drawing.specs.File.{recordsOf, paintAll, drawFileAnswer}
-use Rattle.drawing.specs.Metres.{cellsAnswer, metresAnswer, onCells, onMetres}
+use Rattle.drawing.specs.File.{recordsOf, inked, drawFileAnswer, fileDrawing}
+use Rattle.drawing.specs.Metres.{cellsDrawing, metresDrawing}
 use Rattle.drawing.specs.Boundary.{SameFigure, Named, AllNamed, SameBoundary, InTurn}
 
--- One line: its answer and the bytes it leaves do not depend on which end is named first.
+-- One line is one drawing, whichever end is named first.
 line-either : (a b : Cell) → onLine a b ≡ onLine b a
 line-either a b = λ i c. onLine-either a b c i
 
-pub answer-either : (k : Shape) (n : ℕ) (a b : Cell) → lineAnswer k n a b ≡ lineAnswer k n b a
+pub line-drawing-either : (k : Shape) (ink : ℕ) (a b : Cell) → lineDrawing k ink a b ≡ lineDrawing k ink b a
 unfolding lineAnswer
-answer-either k n a b =
-    λ i. unless (fits k n) Size (unless (and-comm (inLimits a) (inLimits b) i) Coordinate (done (pos (cellsOn k (line-either a b i)) ∷ [])))
+line-drawing-either k ink a b =
+    λ i. record {
+      shape = k;
+      answer = λ (n : ℕ). unless (fits k n) Size (unless (and-comm (inLimits a) (inLimits b) i) Coordinate (done (pos (cellsOn k (line-either a b i)) ∷ [])));
+      figures = only ink (line-either a b i);
+    }
 
-pub left-either : (k : Shape) (ink : ℕ) (a b : Cell) (lent : List ℕ)
-    → settled (lineAnswer k (length lent) a b) (paint k ink (onLine a b) lent) lent
-    ≡ settled (lineAnswer k (length lent) b a) (paint k ink (onLine b a) lent) lent
-left-either k ink a b lent = λ i. settled (answer-either k (length lent) a b i) (paint k ink (line-either a b i) lent) lent
-
--- One line in metres: what is the same of a line in cells from either end is so of the cells that are found.
-module _ {A : Type 0} (f : InCells → A) (either : (a b : Cell) → f (cells.Line a b) ≡ f (cells.Line b a)) where
-  found-either : (p q r s : Found) → f (lineOf p q r s) ≡ f (lineOf r s p q)
-  found-either (At a) (At b) (At c) (At d) = either (cell a b) (cell c d)
+-- One line in metres, likewise: its cells are found from either end.
+module _ (k : Shape) (ink : ℕ) where
+  found-either : (p q r s : Found) → cellsDrawing k ink (lineOf p q r s) ≡ cellsDrawing k ink (lineOf r s p q)
+  found-either (At a) (At b) (At c) (At d) = line-drawing-either k ink (cell a b) (cell c d)
   found-either (At a) (At b) (At c) NoCell = refl
   found-either (At a) (At b) NoCell s = refl
   found-either (At a) NoCell (At c) (At d) = refl
@@ -63,31 +61,15 @@ module _ {A : Type 0} (f : InCells → A) (either : (a b : Cell) → f (cells.Li
   found-either NoCell q (At c) NoCell = refl
   found-either NoCell q NoCell s = refl
 
-  cells-either : (s : Survey) (x0 y0 x1 y1 : Float) → f (inCells s (metres.Line x0 y0 x1 y1)) ≡ f (inCells s (metres.Line x1 y1 x0 y0))
+  pub metres-drawing-either : (s : Survey) (x0 y0 x1 y1 : Float) → metresDrawing k ink s (metres.Line x0 y0 x1 y1) ≡ metresDrawing k ink s (metres.Line x1 y1 x0 y0)
   unfolding inCells
-  cells-either s x0 y0 x1 y1 = by (sound s)
+  metres-drawing-either s x0 y0 x1 y1 = by (sound s)
     where
       by : (t : Bool)
-          → f (cond t (figureIn s (metres.Line x0 y0 x1 y1)) (cells.Refused refusal.Survey))
-          ≡ f (cond t (figureIn s (metres.Line x1 y1 x0 y0)) (cells.Refused refusal.Survey))
+          → cellsDrawing k ink (cond t (figureIn s (metres.Line x0 y0 x1 y1)) (cells.Refused refusal.Survey))
+          ≡ cellsDrawing k ink (cond t (figureIn s (metres.Line x1 y1 x0 y0)) (cells.Refused refusal.Survey))
       by true = found-either (eastward s x0) (northward s y0) (eastward s x1) (northward s y1)
       by false = refl
-
-module _ (k : Shape) (s : Survey) (x0 y0 x1 y1 : Float) where
-  pub metres-answer-either : (n : ℕ) → metresAnswer k n s (metres.Line x0 y0 x1 y1) ≡ metresAnswer k n s (metres.Line x1 y1 x0 y0)
-  unfolding metresAnswer
-  metres-answer-either n =
-      cells-either (λ (c : InCells). unless (fits k n) Size (cellsAnswer k c))
-      (λ a b i. unless (fits k n) Size (done (pos (cellsOn k (line-either a b i)) ∷ []))) s x0 y0 x1 y1
-
-  pub metres-left-either : (ink : ℕ) (lent : List ℕ)
-      → settled (metresAnswer k (length lent) s (metres.Line x0 y0 x1 y1)) (paint k ink (onMetres s (metres.Line x0 y0 x1 y1)) lent) lent
-      ≡ settled (metresAnswer k (length lent) s (metres.Line x1 y1 x0 y0)) (paint k ink (onMetres s (metres.Line x1 y1 x0 y0)) lent) lent
-  unfolding metresAnswer onMetres
-  metres-left-either ink lent =
-      cells-either (λ (c : InCells). settled (unless (fits k (length lent)) Size (cellsAnswer k c)) (paint k ink (onCells c) lent) lent)
-      (λ a b i. settled (unless (fits k (length lent)) Size (done (pos (cellsOn k (line-either a b i)) ∷ []))) (paint k ink (line-either a b i) lent) lent)
-      s x0 y0 x1 y1
 
 -- A figure named from its other end has the same cells.
 same-figure : (f g : Figure) (c : Cell) → SameFigure f g → onFigure f c ≡ onFigure g c
@@ -115,59 +97,61 @@ all-on ink qs rs c (AllNamed.also r rest e n h) t =
     ]
 
 module _ (k : Shape) where
-  -- in one ink the records are painted as one figure
-  paint-all : (ink : ℕ) (qs rs : List Record) (s : List ℕ) → AllNamed ink qs rs → paintAll k rs s ≡ paint k ink (onAll rs) s
-  unfolding paintAll onAll
+  -- the records of a list, painted
+  abbrev pub paintRecords : List Record → List ℕ → List ℕ
+  paintRecords rs s = paintAll k (map inked rs) s
+
+  -- in one ink they are painted as one figure
+  paint-all : (ink : ℕ) (qs rs : List Record) (s : List ℕ) → AllNamed ink qs rs → paintRecords rs s ≡ paint k ink (onAll rs) s
+  unfolding onAll
   paint-all ink qs rs s AllNamed.none = sym (paint-none k ink (λ (c : Cell). false) s (λ x y a b. refl))
   paint-all ink qs rs s (AllNamed.also r rest e n h) =
-      ap (λ (i : ℕ). paintAll k rest (paint k i (onFigure (r .figure)) s)) e
+      ap (λ (i : ℕ). paintRecords rest (paint k i (onFigure (r .figure)) s)) e
       ∙ paint-all ink qs rest (paint k ink (onFigure (r .figure)) s) h
       ∙ paint-then k ink (onFigure (r .figure)) (onAll rest) s
 
   -- in any order
-  pub same-boundary : (ink : ℕ) (rs qs : List Record) (s : List ℕ) → SameBoundary ink rs qs → paintAll k rs s ≡ paintAll k qs s
+  pub same-boundary : (ink : ℕ) (rs qs : List Record) (s : List ℕ) → SameBoundary ink rs qs → paintRecords rs s ≡ paintRecords qs s
   same-boundary ink rs qs s h =
       paint-all ink qs rs s (h .there)
       ∙ paint-as k ink (onAll rs) (onAll qs) s (λ x y a b. same _ _ (all-on ink qs rs (cellOf x y) (h .there)) (all-on ink rs qs (cellOf x y) (h .back)))
       ∙ sym (paint-all ink rs qs s (h .back))
 
   -- in the same order
-  pub same-in-turn : (rs qs : List Record) (s : List ℕ) → InTurn rs qs → paintAll k rs s ≡ paintAll k qs s
-  unfolding paintAll
+  pub same-in-turn : (rs qs : List Record) (s : List ℕ) → InTurn rs qs → paintRecords rs s ≡ paintRecords qs s
   same-in-turn rs qs s InTurn.none = refl
   same-in-turn rs qs s (InTurn.also r q rest more e f h) =
       let p = paint-as k (r .ink) (onFigure (r .figure)) (onFigure (q .figure)) s (λ x y a b. same-figure (r .figure) (q .figure) (cellOf x y) f) in
-      ap (paintAll k rest) (p ∙ ap (λ (i : ℕ). paint k i (onFigure (q .figure)) s) e)
+      ap (paintRecords rest) (p ∙ ap (λ (i : ℕ). paint k i (onFigure (q .figure)) s) e)
       ∙ same-in-turn rest more (paint k (q .ink) (onFigure (q .figure)) s) h
 
-  -- what a file that none refuses is told and leaves
-  module _ (file lent : List ℕ) (rs : List Record) (e : readAll file ≡ holds rs) where
-    told-by : drawFileAnswer k (length lent) file ≡ cond (fits k (length lent)) (done (pos (length rs) ∷ [])) (refuseAt Size 0)
+  -- what a file of which no record is refused tells and leaves
+  module _ (file lent : List ℕ) (rs : List Record) (e : readAll file ≡ holds rs) (a : Answer) (s : List ℕ) (h : Draws (fileDrawing k file) lent a s) where
+    told-by : a ≡ cond (fits k (length lent)) (done (pos (length rs) ∷ [])) (refuseAt Size 0)
     unfolding drawFileAnswer fileAnswer
-    told-by = ap (λ (c : Contents). cond (fits k (length lent)) (contentsAnswer c) (refuseAt Size 0)) e
+    told-by = h .tells ∙ ap (λ (c : Contents). cond (fits k (length lent)) (contentsAnswer c) (refuseAt Size 0)) e
 
-    left-by : settled (drawFileAnswer k (length lent) file) (paintAll k (recordsOf (readAll file)) lent) lent
-        ≡ cond (fits k (length lent)) (paintAll k rs lent) lent
+    left-by : s ≡ cond (fits k (length lent)) (paintRecords rs lent) lent
     unfolding drawFileAnswer fileAnswer
     left-by =
-        (λ i. settled (cond (fits k (length lent)) (contentsAnswer (e i)) (refuseAt Size 0)) (paintAll k (recordsOf (e i)) lent) lent)
+        h .leaves
+        ∙ (λ i. settled (cond (fits k (length lent)) (contentsAnswer (e i)) (refuseAt Size 0)) (paintRecords (recordsOf (e i)) lent) lent)
         ∙ by (fits k (length lent))
       where
-        by : (t : Bool) → settled (cond t (contentsAnswer (holds rs)) (refuseAt Size 0)) (paintAll k rs lent) lent ≡ cond t (paintAll k rs lent) lent
+        by : (t : Bool) → settled (cond t (contentsAnswer (holds rs)) (refuseAt Size 0)) (paintRecords rs lent) lent ≡ cond t (paintRecords rs lent) lent
         by true = refl
         by false = refl
 
   -- Two files, none of whose records is refused, on sheets that were alike:
-  module _ (file other lent : List ℕ) (rs qs : List Record) (e : readAll file ≡ holds rs) (f : readAll other ≡ holds qs) where
+  module _ (file other lent : List ℕ) (rs qs : List Record) (e : readAll file ≡ holds rs) (f : readAll other ≡ holds qs)
+      (a b : Answer) (s t : List ℕ) (h : Draws (fileDrawing k file) lent a s) (g : Draws (fileDrawing k other) lent b t) where
     -- where painting their records comes to the same, the bytes left are the same,
-    pub files-left : paintAll k rs lent ≡ paintAll k qs lent
-        → settled (drawFileAnswer k (length lent) file) (paintAll k (recordsOf (readAll file)) lent) lent
-        ≡ settled (drawFileAnswer k (length lent) other) (paintAll k (recordsOf (readAll other)) lent) lent
-    files-left p = left-by file lent rs e ∙ ap (λ (d : List ℕ). cond (fits k (length lent)) d lent) p ∙ sym (left-by other lent qs f)
+    pub files-left : paintRecords rs lent ≡ paintRecords qs lent → s ≡ t
+    files-left p = left-by file lent rs e a s h ∙ ap (λ (d : List ℕ). cond (fits k (length lent)) d lent) p ∙ sym (left-by other lent qs f b t g)
 
-    -- and with as many records the answers are equal.
-    pub files-told : length rs ≡ length qs → drawFileAnswer k (length lent) file ≡ drawFileAnswer k (length lent) other
+    -- and with as many records the replies are equal.
+    pub files-told : length rs ≡ length qs → a ≡ b
     files-told l =
-        told-by file lent rs e
+        told-by file lent rs e a s h
         ∙ ap (λ (n : ℕ). cond (fits k (length lent)) (done (pos n ∷ [])) (refuseAt Size 0)) l
-        ∙ sym (told-by other lent qs f)
+        ∙ sym (told-by other lent qs f b t g)

@@ -6,23 +6,26 @@ use mathlib.Core.Path.{_≡_, refl, ap, _∙_}
 use mathlib.Core.List.{List, [], _∷_}
 use mathlib.Core.Bool.{true, false, true≢false}
 use native.Mathlib.Omega.{arith}
-use lib.Dec.{eqb}
 use lib.ListN.{length}
 use lib.IntN.{pos, natAbs}
 use lib.Ieee.{Float, nan, ofInt, sub, div, le, lt}
-use Rattle.sheet.specs.Sheet.{fits, coordinate, inLimits, cellOf, semiAxis}
-use Rattle.sheet.specs.Reply.{Answer, number}
-use Rattle.sheet.specs.Mark.{markAnswer}
+use Rattle.sheet.specs.Sheet.{fits, coordinate, inLimits, cellOf, radius, semiAxis, split}
+use Rattle.sheet.specs.Reply.{Answer, number, told, isDone, valueOf}
+use Rattle.sheet.specs.Drawing.{markAnswer}
 use Rattle.sheet.specs.Inner.{moved, lowered, movedCell, loweredCell}
 use Rattle.sheet.specs.declared.Cell.{Cell}
 use Rattle.sheet.specs.declared.Spot.{Spot}
+use Rattle.sheet.specs.declared.Reply.{Reply}
+use Rattle.sheet.specs.declared.Reply.the-variants.{Done, Counted, Refused}
+use Rattle.sheet.specs.declared.Figure.{Figure}
+use Rattle.sheet.specs.declared.Figure.the-variants.{Line}
 use Rattle.sheet.specs.declared.Refusal.the-variants.{Size, Coordinate}
 use Rattle.sheet.specs.declared.Refusal.the-variants as refusal
 use Rattle.sheet.proofs.Empty.{Both, Differ}
 use Rattle.line.specs.Draw.{lineAnswer}
 use Rattle.line.specs.Listing.{listAnswer}
 use Rattle.line.specs.Pen.{fresh, movedOn, beginAnswer, hasCell, nextAnswer, askAnswer}
-use Rattle.ring.specs.Answer.{semiAxes, ringAnswer, circleAnswer, ellipseAnswer}
+use Rattle.ring.specs.Draw.{ringAnswer, circleDrawing, ellipseDrawing}
 use Rattle.curve.specs.Draw.{allInLimits, curveAnswer}
 use Rattle.survey.specs.Cell.{isCellOf, findCell, toldFound}
 use Rattle.survey.specs.Metres.{findCoordinate, findLength, sound, inCells, toldInCells}
@@ -35,10 +38,9 @@ use Rattle.survey.specs.declared.InCells.the-variants as cells
 use Rattle.survey.proofs.Cells.{cell-is, nan-none}
 use Rattle.record.specs.Reading.{foundAt, readAt, readAnswer}
 use Rattle.record.specs.File.{readIn, readFrom, readAll, fileAnswer}
-use Rattle.record.specs.declared.types.Figure.the-variants.{Line}
-use Rattle.drawing.specs.Figure.{figureAnswer}
+use Rattle.drawing.specs.Figure.{figureDrawing}
 use Rattle.drawing.specs.File.{drawFileAnswer}
-use Rattle.drawing.specs.Metres.{isRadius, areSemiAxes, cellsAnswer, metresAnswer}
+use Rattle.drawing.specs.Metres.{cellsDrawing, metresDrawing}
 use Rattle.drawing.proofs.Nothing.{small, whole, home, zero-at, zero-long, line-cells, circle-cells, ellipse-cells}
 
 -- a cell, and one outside the limits
@@ -48,9 +50,32 @@ origin = cellOf 0 0
 abbrev far : Cell
 far = cellOf 16384 0
 
--- of sheet: a table, a sheet of one byte, a coordinate
+-- of sheet: a table, replies, limits, a sheet of one byte, a coordinate
 pub number-differs : Differ number Size Coordinate
 number-differs e = let z : _≡_ {A = ℕ} 1 2 = e in omega arith
+
+pub reply-differs : Differ (λ (r : Reply). told r .number) Done (Refused Coordinate)
+reply-differs e = let z : _≡_ {A = ℕ} 0 2 = e in omega arith
+
+pub value-differs : Differ (λ (r : Reply). valueOf (told r)) (Counted 0) (Counted 1)
+value-differs e = let z : _≡_ {A = ℕ} 0 1 = e in omega arith
+
+pub is-done-differs : Differ (λ (r : Reply). isDone (told r)) Done (Refused Coordinate)
+is-done-differs e = true≢false e
+
+pub coordinate-differs : Differ coordinate (pos 0) (pos 16384)
+unfolding coordinate
+coordinate-differs e = true≢false e
+
+pub radius-differs : Differ radius 0 16384
+radius-differs e = true≢false e
+
+pub semi-axis-differs : Differ semiAxis 1 0
+unfolding semiAxis
+semi-axis-differs e = true≢false e
+
+pub split-differs : Differ split 0 7
+split-differs e = true≢false e
 
 pub fits-differs : Differ (fits small) 1 0
 unfolding fits
@@ -74,12 +99,12 @@ pub in-limits-differs : Differ inLimits origin far
 unfolding inLimits coordinate
 in-limits-differs e = true≢false e
 
-pub mark-both : Both (markAnswer small 1) origin far
+pub mark-both : Both (λ (c : Cell). markAnswer small c 1) origin far
 unfolding markAnswer fits inLimits coordinate
 mark-both = record { done = refl; refused = refl }
 
 -- of line: a second end outside the limits; a pen before its only cell and after it
-pub line-both : Both (lineAnswer small 1 origin) origin far
+pub line-both : Both (λ (b : Cell). lineAnswer small origin b 1) origin far
 unfolding lineAnswer fits inLimits coordinate
 line-both = record { done = refl; refused = refl }
 
@@ -105,16 +130,16 @@ unfolding hasCell inLimits coordinate
 has-cell-differs e = true≢false e
 
 -- of ring: a radius too great, a semi-axis of 0
-pub circle-both : Both (circleAnswer small 1 origin) 0 16384
+pub circle-both : Both (λ (r : ℕ). circleDrawing small 1 origin r .answer 1) 0 16384
 unfolding ringAnswer fits inLimits coordinate
 circle-both = record { done = refl; refused = refl }
 
-pub ellipse-both : Both (ellipseAnswer small 1 origin 1) 1 0
-unfolding ringAnswer semiAxes semiAxis fits inLimits coordinate
+pub ellipse-both : Both (λ (b : ℕ). ellipseDrawing small 1 origin 1 b .answer 1) 1 0
+unfolding ringAnswer semiAxis fits inLimits coordinate
 ellipse-both = record { done = refl; refused = refl }
 
 -- of curve: s above 6
-pub curve-both : Both (curveAnswer small 1 (origin ∷ origin ∷ origin ∷ [])) 0 7
+pub curve-both : Both (λ (s : ℕ). curveAnswer small (origin ∷ origin ∷ origin ∷ []) s 1) 0 7
 unfolding curveAnswer allInLimits fits inLimits coordinate
 curve-both = record { done = refl; refused = refl }
 
@@ -128,9 +153,9 @@ sound-differs e = true≢false e
 
 -- where what is found at each of the two inputs is known, and one is told as 0 and the other as a refusal
 both-told : {I R : Type 0} (told : R → Answer) (find : I → R) (i j : I) (r s : R) → find i ≡ r → find j ≡ s
-    → eqb (told r .number) 0 ≡ true → eqb (told s .number) 0 ≡ false → Both (λ (k : I). told (find k)) i j
+    → isDone (told r) ≡ true → isDone (told s) ≡ false → Both (λ (k : I). told (find k)) i j
 both-told {I} {R} told find i j r s at none zero above =
-    record { done = ap (λ (q : R). eqb (told q .number) 0) at ∙ zero; refused = ap (λ (q : R). eqb (told q .number) 0) none ∙ above }
+    record { done = ap (λ (q : R). isDone (told q)) at ∙ zero; refused = ap (λ (q : R). isDone (told q)) none ∙ above }
 
 pub find-cell-both : Both (λ (q : Float). toldFound (findCell q)) (whole 0) nan
 unfolding coordinate isCellOf ofInt le lt
@@ -156,7 +181,7 @@ flat-refused f = refl
 
 -- of a figure in metres, by any telling of what it is in cells
 in-cells-both : (told : InCells → Answer) (f : Metres) (c : InCells) → inCells home f ≡ c
-    → eqb (told c .number) 0 ≡ true → eqb (told (cells.Refused refusal.Survey) .number) 0 ≡ false → Both (λ (s : Survey). told (inCells s f)) home flat
+    → isDone (told c) ≡ true → isDone (told (cells.Refused refusal.Survey)) ≡ false → Both (λ (s : Survey). told (inCells s f)) home flat
 in-cells-both told f c e = both-told told (λ (s : Survey). inCells s f) home flat c (cells.Refused refusal.Survey) e (flat-refused f)
 
 pub to-cells-both : Both (λ (s : Survey). toldInCells (inCells s (metres.Circle (whole 0) (whole 0) (whole 0)))) home flat
@@ -175,22 +200,28 @@ unfolding fileAnswer readAll readFrom readIn readAt foundAt
 check-both = record { done = refl; refused = refl }
 
 -- of drawing: a line of one cell and one with an end outside the limits; the same two files; the same two surveys
-pub figure-both : Both (figureAnswer small 1) (Line origin origin) (Line origin far)
+pub figure-both : Both (λ (f : Figure). figureDrawing small 1 f .answer 1) (Line origin origin) (Line origin far)
 unfolding lineAnswer fits inLimits coordinate
 figure-both = record { done = refl; refused = refl }
 
-pub file-both : Both (drawFileAnswer small 1) [] lone
+pub file-both : Both (λ (file : List ℕ). drawFileAnswer small file 1) [] lone
 unfolding drawFileAnswer fileAnswer readAll readFrom readIn readAt foundAt fits
 file-both = record { done = refl; refused = refl }
 
-pub line-metres-both : Both (λ (s : Survey). metresAnswer small 1 s (metres.Line (whole 0) (whole 0) (whole 0) (whole 0))) home flat
-unfolding metresAnswer fits
-line-metres-both = in-cells-both (cellsAnswer small) _ _ line-cells refl refl
+abbrev answerOf : InCells → Answer
+answerOf c = cellsDrawing small 1 c .answer 1
 
-pub circle-metres-both : Both (λ (s : Survey). metresAnswer small 1 s (metres.Circle (whole 0) (whole 0) (whole 0))) home flat
-unfolding metresAnswer fits isRadius
-circle-metres-both = in-cells-both (cellsAnswer small) _ _ circle-cells refl refl
+abbrev answerIn : Metres → Survey → Answer
+answerIn f s = metresDrawing small 1 s f .answer 1
 
-pub ellipse-metres-both : Both (λ (s : Survey). metresAnswer small 1 s (metres.Ellipse (whole 1) (whole 0) (whole 1) (whole 1))) home flat
-unfolding metresAnswer fits areSemiAxes semiAxes semiAxis
-ellipse-metres-both = in-cells-both (cellsAnswer small) _ _ ellipse-cells refl refl
+pub line-metres-both : Both (answerIn (metres.Line (whole 0) (whole 0) (whole 0) (whole 0))) home flat
+unfolding lineAnswer fits inLimits coordinate
+line-metres-both = in-cells-both answerOf _ _ line-cells refl refl
+
+pub circle-metres-both : Both (answerIn (metres.Circle (whole 0) (whole 0) (whole 0))) home flat
+unfolding ringAnswer fits inLimits coordinate
+circle-metres-both = in-cells-both answerOf _ _ circle-cells refl refl
+
+pub ellipse-metres-both : Both (answerIn (metres.Ellipse (whole 1) (whole 0) (whole 1) (whole 1))) home flat
+unfolding ringAnswer semiAxis fits inLimits coordinate
+ellipse-metres-both = in-cells-both answerOf _ _ ellipse-cells refl refl

@@ -15,8 +15,8 @@ use Rattle.ring.specs.Ring.{away, around, inEighth, circleRule, onCircle, slope
 use Rattle.ring.proofs.Columns.{ellipse-within}
 use Rattle.ring.proofs.Eighths.{circle-within}
 use Rattle.curve.specs.Rule.{blend, coordinateAt, pointAt}
-use Rattle.record.specs.declared.types.Figure.the-variants.{Circle, Ellipse}
-use Rattle.drawing.specs.Starred.{ring, span, row, rows, among, near, mirrored, Holds, AllHold, none, also, from0, from2, from3, from32, table}
+use Rattle.sheet.specs.declared.Figure.the-variants.{Circle, Ellipse}
+use Rattle.drawing.specs.Starred.{ring, span, row, rows, among, near, mirrored, Holds, AllHold, none, also, from0, from2, from3, from32, starredExamples}
 
 -- no cell of a small ring is further than 4 away
 away-zero : (z : ℤ) → away z (pos 0) ≡ natAbs z
@@ -42,8 +42,8 @@ ellipse-holds : (a b n : ℕ) (from : List Cell) → a ≤ 4 → b ≤ 4 → nea
     → length (near (onEllipse (cellOf 0 0) a b)) ≡ n → Holds (ring (Ellipse (cellOf 0 0) a b) from n)
 ellipse-holds a b n from h g e l = (in-ellipse a b h g, e, l)
 
-pub starred : AllHold table
-unfolding table among rows row span mirrored lesser rise fromLesser nth listed around circleRule inEighth ellipseRule inColumn slope nearest blend coordinateAt pointAt
+pub starred : AllHold starredExamples
+unfolding starredExamples among rows row span mirrored lesser rise fromLesser nth listed around circleRule inEighth ellipseRule inColumn slope nearest blend coordinateAt pointAt
 starred =
     also refl
     (also refl

@@ -3,8 +3,8 @@ use Prim.Native.Nat.{ℕ}
 use mathlib.Core.Path.{_≡_}
 use mathlib.Core.List.{List, [], _∷_}
 use Rattle.sheet.specs.declared.Cell.{Cell}
-use Rattle.record.specs.declared.types.Figure.{Figure}
-use Rattle.record.specs.declared.types.Figure.the-variants.{Line, Curve}
+use Rattle.sheet.specs.declared.Figure.{Figure}
+use Rattle.sheet.specs.declared.Figure.the-variants.{Line, Curve}
 use Rattle.record.specs.declared.types.Record.{Record}
 
 -- one figure, named by two: alike, or from its other end

@@ -2,5 +2,4 @@ pub mod Boundary
 pub mod Figure
 pub mod File
 pub mod Metres
-pub mod Shown
 pub mod Starred

@@ -6,12 +6,12 @@ use mathlib.Core.Bool.{Bool, false, cond, _&&_, _||_}
 use lib.ListN.{length}
 use lib.Dec.{T, eqb}
 use lib.IntN.{ℤ, pos, negsuc, negℤ, natAbs}
-use Rattle.sheet.specs.Sheet.{cellOf}
+use Rattle.sheet.specs.Sheet.{cell, cellOf}
 use Rattle.sheet.specs.declared.Cell.{Cell}
 use Rattle.line.specs.Listing.{cellsOf, listing}
 use Rattle.curve.specs.Rule.{pointAt}
-use Rattle.record.specs.declared.types.Figure.{Figure}
-use Rattle.record.specs.declared.types.Figure.the-variants.{Circle, Ellipse}
+use Rattle.sheet.specs.declared.Figure.{Figure}
+use Rattle.sheet.specs.declared.Figure.the-variants.{Circle, Ellipse}
 use Rattle.drawing.specs.Figure.{onFigure}
 
 -- a line by its ends and the cells listed; a ring by the cells (x, y) that it is mirrored from, and how many it has; a curve by its control points, s and its points
@@ -27,7 +27,7 @@ span (suc n) = negsuc n ∷ (span n ++ (pos (suc n) ∷ []))
 
 unfoldable pub row : ℤ → List ℤ → List Cell
 row y [] = []
-row y (x ∷ xs) = record { x = x; y = y } ∷ row y xs
+row y (x ∷ xs) = cell x y ∷ row y xs
 
 unfoldable pub rows : List ℤ → List ℤ → List Cell
 rows xs [] = []
@@ -64,11 +64,11 @@ abbrev pub less : ℤ
 less = negℤ (pos 1)
 
 abbrev pub level : ℤ → Cell
-level x = record { x = x; y = pos 0 }
+level x = cell x (pos 0)
 
 -- (2, −1)
 abbrev pub above : Cell
-above = record { x = pos 2; y = less }
+above = cell (pos 2) less
 
 -- the cells that the circles of radius 0, 2 and 3, with x and y exchanged too, and the ellipse are mirrored from
 abbrev pub from0 : List Cell
@@ -83,8 +83,8 @@ from3 = cellOf 0 3 ∷ cellOf 1 3 ∷ cellOf 2 2 ∷ cellOf 3 0 ∷ cellOf 3 1 �
 abbrev pub from32 : List Cell
 from32 = cellOf 0 2 ∷ cellOf 1 2 ∷ cellOf 2 1 ∷ cellOf 3 1 ∷ cellOf 3 0 ∷ []
 
-unfoldable pub table : List Example
-table =
+unfoldable pub starredExamples : List Example
+starredExamples =
     line (cellOf 0 0) (cellOf 2 1) (cellOf 0 0 ∷ cellOf 1 1 ∷ cellOf 2 1 ∷ [])
     ∷ line (cellOf 2 1) (cellOf 0 0) (cellOf 2 1 ∷ cellOf 1 1 ∷ cellOf 0 0 ∷ [])
     ∷ line (cellOf 0 0) (cellOf 5 2) (cellOf 0 0 ∷ cellOf 1 0 ∷ cellOf 2 1 ∷ cellOf 3 1 ∷ cellOf 4 2 ∷ cellOf 5 2 ∷ [])

@@ -1,5 +1,5 @@
 -- The laws of `any` and `count`.
-use Prim.Native.Nat.{ℕ, zero, suc, _+_, _<_}
+use Prim.Native.Nat.{ℕ, zero, suc, _+_, _≤_, _<_}
 use mathlib.Core.Path.{_≡_, refl, subst, ap, ap₂, _∙_}
 use mathlib.Core.Logic.{⊎-elim}
 use mathlib.Core.Bool.{Bool, true, false, cond, _||_, or-false}
@@ -56,6 +56,16 @@ pub count-none : (n : ℕ) (test : ℕ → Bool) → ((i : ℕ) → i < n → te
 unfolding count
 count-none zero test h = refl
 count-none (suc n) test h = rw (h n (omega arith)) (omega (arith, count-none n test (λ i l. h i (omega arith))))
+
+-- no more pass than there are
+pub count-most : (n : ℕ) (test : ℕ → Bool) → count n test ≤ n
+unfolding count
+count-most zero test = omega arith
+count-most (suc n) test = by (test n) (count-most n test)
+  where
+    by : (t : Bool) → count n test ≤ n → count n test + cond t 1 0 ≤ suc n
+    by true h = omega arith
+    by false h = omega arith
 
 -- one number more passes
 pub count-more : (n : ℕ) (test : ℕ → Bool) (at : ℕ) → at < n → test at ≡ false → count n (λ (i : ℕ). test i || eqb i at) ≡ count n test + 1

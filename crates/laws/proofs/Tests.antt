@@ -52,6 +52,11 @@ is-false false f = refl
 pub from-true : (a : Bool) → a ≡ true → T a
 from-true a e = subst T (sym e) tt
 
+-- both halves of an `&&`
+pub halves : (a b : Bool) → (a && b) ≡ true → (a ≡ true) × (b ≡ true)
+halves true b e = (refl, e)
+halves false b e = absurd (from-true false e)
+
 -- equal numbers pass the test of equality
 pub eqb-of : (m n : ℕ) → m ≡ n → T (eqb m n)
 eqb-of m n e = subst (λ (k : ℕ). T (eqb m k)) e (eqb-refl m)

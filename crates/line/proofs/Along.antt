@@ -13,7 +13,7 @@ use Rattle.sheet.specs.declared.Cell.{Cell}
 use Rattle.line.specs.Listing.{cellsOf}
 use Rattle.line.specs.Inner.Course.{stepped}
 use Rattle.line.specs.Inner.Fixed.{gone}
-use Rattle.line.specs.Inner.Along.{over, numberAt, reached, along, Bounded}
+use Rattle.line.specs.Inner.Along.{over, numberAt, reached, ithAlong, Bounded}
 use Rattle.line.proofs.Rise.{from-either}
 
 -- one place more
@@ -99,7 +99,7 @@ module _ (m l f : ℕ) (a : Bounded m l f) where
 pub record Running (first up : Bool) (m l f : ℕ) (list₀ list : List ℤ) (t i : ℕ) : Type 0 where
   pub most : i ≤ l + 1
   pub sum : i ≤ l → t ≡ reached up m (gone l f (numberAt first l i))
-  pub listed : list ≡ over (along first up m l f) i list₀
+  pub listed : list ≡ over (ithAlong first up m l f) i list₀
 
 module _ (first up : Bool) (m l f : ℕ) where
   pub begins : (list : List ℤ) (t n : ℕ) → n ≡ cond first 0 l → t ≡ reached up m (gone l f n) → Running first up m l f list list t 0
@@ -114,16 +114,16 @@ module _ (first up : Bool) (m l f : ℕ) where
     pub within : (i < length list) × (4294967296 ≤ t) × (t < 562949953421312)
     within =
         let h : numberAt first l i ≤ l = from-either first i l (omega arith) in
-        let e : length list ≡ length list₀ = ap length (r .listed) ∙ over-length (along first up m l f) i list₀ in
+        let e : length list ≡ length list₀ = ap length (r .listed) ∙ over-length (ithAlong first up m l f) i list₀ in
         omega (arith, sum-is, reached-low m l f a up (numberAt first l i) h, reached-high m l f a up (numberAt first l i) h)
 
     pub turn : (gains : ℕ) (list′ : List ℤ) → gains ≡ gain up first f → list′ ≡ set list i (unmoved (t / 4294967296))
         → Running first up m l f list₀ list′ (t + gains - (f - gains)) (i + 1)
-    unfolding along
+    unfolding ithAlong
     turn gains list′ hg h =
         let e : t / 4294967296 ≡ stepped up m (gone l f (numberAt first l i) / 4294967296) = ap (λ (z : ℕ). z / 4294967296) sum-is ∙ whole-at m l f a up (numberAt first l i) (from-either first i l (omega arith)) in
         record {
           most = omega arith;
           sum = λ p. (λ j. sum-is j + hg j - (f - hg j)) ∙ sum-next m l f a first up i p;
-          listed = h ∙ (λ j. set (r .listed j) i (unmoved (e j))) ∙ over-more (along first up m l f) i list₀ (omega arith) ∙ ap (λ (n : ℕ). over (along first up m l f) n list₀) (sym (add-one i));
+          listed = h ∙ (λ j. set (r .listed j) i (unmoved (e j))) ∙ over-more (ithAlong first up m l f) i list₀ (omega arith) ∙ ap (λ (n : ℕ). over (ithAlong first up m l f) n list₀) (sym (add-one i));
         }

@@ -9,11 +9,12 @@ use lib.IntN.{ℤ, pos, natAbs, _+ℤ_, _-ℤ_}
 use lib.Signed.{ltZ, leZ}
 use Rattle.laws.specs.Equal.{eqZ}
 use Rattle.laws.proofs.Ints.{parts, one-zero, le-parts, lt-parts, to-leZ, to-ltZ, to-≡ℤ, from-≡ℤ, eqZ→≡, eqZ-refl}
-use Rattle.laws.proofs.Tests.{same, from-true, eqb-of}
-use Rattle.sheet.specs.Inner.{unmoved, unmovedCell, Moved}
+use Rattle.laws.proofs.Tests.{same, from-true, halves, eqb-of}
+use Rattle.sheet.specs.Sheet.{inLimits}
+use Rattle.sheet.specs.Inner.{unmoved, movedCell, unmovedCell, Moved}
 use Rattle.sheet.specs.declared.Cell.{Cell}
 use Rattle.sheet.specs.declared.Spot.{Spot}
-use Rattle.sheet.proofs.Limits.{LiftedCell, stands-parts}
+use Rattle.sheet.proofs.Limits.{LiftedCell, lifted-cell, stands-parts}
 use Rattle.line.specs.Rule.{lesser, wide, tall, longer, shorter, long, rise, toward, fromLesser, nth}
 use Rattle.line.specs.Inner.Course.{gap, stepped, spotAt, lesserSpot, courseFrom, courseOf, Runs}
 use Rattle.line.proofs.Rise.{rise-le}
@@ -151,6 +152,17 @@ module _ (a b : Cell) (p q : Spot) (P : LiftedCell a p) (Q : LiftedCell b q) whe
 
   from-long : courseFrom p q .long ≡ long a b
   from-long = λ i. longer (wide-is i) (tall-is i)
+
+-- two ends within the limits, lifted
+module _ (a b : Cell) (e : (inLimits a && inLimits b) ≡ true) where
+  pub first-in : inLimits a ≡ true
+  first-in = halves (inLimits a) (inLimits b) e .0
+
+  pub second-in : inLimits b ≡ true
+  second-in = halves (inLimits a) (inLimits b) e .1
+
+  pub ends-lifted : (p q : Spot) → p ≡ movedCell a → q ≡ movedCell b → LiftedCell a p × LiftedCell b q
+  ends-lifted p q f g = (lifted-cell a p first-in f, lifted-cell b q second-in g)
 
 -- the course of two lifted ends, whichever is the lesser
 module _ (a b : Cell) (p q : Spot) (P : LiftedCell a p) (Q : LiftedCell b q) where

@@ -10,20 +10,20 @@ use lib.Dec.{ltb}
 use Rattle.laws.proofs.Floor.{div-is, div-low, div-high}
 use Rattle.laws.proofs.Products.{mul-lt-back}
 use Rattle.line.specs.Rule.{rise}
-use Rattle.line.specs.Inner.Fixed.{slope, gone, tally}
+use Rattle.line.specs.Inner.Fixed.{gradient, gone, tally}
 use Rattle.line.proofs.Rise.{rise-low, rise-high, rise-start}
 
--- the bounds that make the slope
+-- the bounds that make the gradient
 module _ (l s : ℕ) (p : 0 < l) where
-  slope-low : slope l s * l ≤ s * 4294967295
-  unfolding slope
+  slope-low : gradient l s * l ≤ s * 4294967295
+  unfolding gradient
   slope-low = div-low (s * 4294967295) l
 
-  slope-high : s * 4294967295 < (slope l s + 1) * l
-  unfolding slope
+  slope-high : s * 4294967295 < (gradient l s + 1) * l
+  unfolding gradient
   slope-high = div-high (s * 4294967295) l p
 
--- over plain numbers: f the slope, q the rise
+-- over plain numbers: f the gradient, q the rise
 module _ (l s n f q : ℕ) (p : 0 < l) (limit : l ≤ 32767) (small : s ≤ l) (m : n ≤ l)
     (fl : f * l ≤ s * 4294967295) (fh : s * 4294967295 < (f + 1) * l)
     (ql : q * (2 * l) ≤ 2 * (n * s) + l) (qh : 2 * (n * s) + l < (q + 1) * (2 * l)) where
@@ -50,12 +50,12 @@ tally-rise zero s zero a b c = omega (arith, rise-start 0 s)
 tally-rise zero s (suc n) a b c = absurd (omega arith)
 tally-rise (suc l) s n a b c =
     let p : 0 < suc l = omega arith in
-    whole-is (suc l) s n (slope (suc l) s) (rise (suc l) s n) p b a c
+    whole-is (suc l) s n (gradient (suc l) s) (rise (suc l) s n) p b a c
     (slope-low (suc l) s p) (slope-high (suc l) s p) (rise-low (suc l) s n) (rise-high (suc l) s n p)
 
--- the slope and the tally fit their types
-pub slope-fits : (l s : ℕ) → s ≤ l → slope l s ≤ 4294967295
-unfolding slope
+-- the gradient and the tally fit their types
+pub slope-fits : (l s : ℕ) → s ≤ l → gradient l s ≤ 4294967295
+unfolding gradient
 slope-fits zero s a = omega (arith, div-zero (s * 4294967295))
 slope-fits (suc l) s a = let u : s * 4294967295 / suc l < 4294967296 = div-lt-iff-lt-mul {k = suc l} {x = s * 4294967295} {y = 4294967296} (omega arith) .1 (omega arith) in omega arith
 
@@ -65,23 +65,23 @@ tally-fits l n f a b c =
     let v : n ≤ 32767 = omega arith in
     omega (arith, mul-le-mul {n₁ = n} {m₁ = f} {n₂ = 32767} {m₂ = 4294967295} v u)
 
--- a line of one cell has no slope
-pub slope-none : (l s : ℕ) → l < 1 → 0 ≡ slope l s
-unfolding slope
+-- a line of one cell has no gradient
+pub slope-none : (l s : ℕ) → l < 1 → 0 ≡ gradient l s
+unfolding gradient
 slope-none zero s a = sym (div-zero (s * 4294967295))
 slope-none (suc l) s a = absurd (omega arith)
 
 -- where a walk starts
-pub tally-is : (l s n f t : ℕ) → f ≡ slope l s → t ≡ gone l f n → t ≡ tally l s n
+pub tally-is : (l s n f t : ℕ) → f ≡ gradient l s → t ≡ gone l f n → t ≡ tally l s n
 unfolding tally
 tally-is l s n f t a b = b ∙ ap (λ (z : ℕ). gone l z n) a
 
--- a turn adds the slope
-pub tally-next : (l s n : ℕ) → tally l s (n + 1) ≡ tally l s n + slope l s
+-- a turn adds the gradient
+pub tally-next : (l s n : ℕ) → tally l s (n + 1) ≡ tally l s n + gradient l s
 unfolding tally
 tally-next l s n = omega arith
 
-pub part-next : (l s n part f next : ℕ) → part ≡ tally l s n % 2 ^ 32 → f ≡ slope l s → next ≡ (part + f) % 2 ^ 32 → next ≡ tally l s (n + 1) % 2 ^ 32
+pub part-next : (l s n part f next : ℕ) → part ≡ tally l s n % 2 ^ 32 → f ≡ gradient l s → next ≡ (part + f) % 2 ^ 32 → next ≡ tally l s (n + 1) % 2 ^ 32
 part-next l s n part f next a b c = omega (arith, tally-next l s n)
 
 -- the sum of the parts wraps just where the whole part goes up
@@ -89,11 +89,11 @@ carry : (t f : ℕ) → f ≤ 4294967295 → (u : Bool) → ltb ((t % 2 ^ 32 + f
 carry t f a true e = omega (arith, ltb-true ((t % 2 ^ 32 + f) % 2 ^ 32) (t % 2 ^ 32) e)
 carry t f a false e = omega (arith, ltb-false ((t % 2 ^ 32 + f) % 2 ^ 32) (t % 2 ^ 32) e)
 
-pub rise-next : (l s : ℕ) → s ≤ l → l ≤ 32767 → (n part f next : ℕ) → n + 1 ≤ l → part ≡ tally l s n % 2 ^ 32 → f ≡ slope l s → next ≡ (part + f) % 2 ^ 32
+pub rise-next : (l s : ℕ) → s ≤ l → l ≤ 32767 → (n part f next : ℕ) → n + 1 ≤ l → part ≡ tally l s n % 2 ^ 32 → f ≡ gradient l s → next ≡ (part + f) % 2 ^ 32
     → cond (ltb next part) (rise l s n + 1) (rise l s n) ≡ rise l s (n + 1)
 rise-next l s small limit n part f next m a b c =
     let q = tally-rise l s n small limit (omega arith) in
     (λ i. cond (ltb ((c ∙ (λ j. (a j + b j) % 2 ^ 32)) i) (a i)) (sym q i + 1) (sym q i))
-    ∙ carry (tally l s n) (slope l s) (slope-fits l s small) _ refl
+    ∙ carry (tally l s n) (gradient l s) (slope-fits l s small) _ refl
     ∙ ap (λ (z : ℕ). z / 4294967296) (sym (tally-next l s n))
     ∙ tally-rise l s (n + 1) small limit m

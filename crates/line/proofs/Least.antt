@@ -4,7 +4,7 @@ use mathlib.Core.Path.{_≡_, ap}
 use native.Mathlib.Nat.{div-lt-iff-lt-mul, le-div-iff-mul-le, mul-le-mul, mul-le-mul-right}
 use native.Mathlib.Omega.{arith}
 use Rattle.line.specs.Rule.{rise}
-use Rattle.line.specs.Inner.Span.{Least}
+use Rattle.line.specs.Inner.Span.{FirstAt}
 use Rattle.line.proofs.Rise.{rise-short}
 
 module _ (l s n k : ℕ) (p : 0 < l) where
@@ -18,7 +18,7 @@ module _ (l s n k : ℕ) (p : 0 < l) where
 
 module _ (k l s : ℕ) where
   -- no n has come so far
-  pub least-none : s < k → Least k l s (l + 1)
+  pub least-none : s < k → FirstAt k l s (l + 1)
   least-none h =
       record {
         low = omega arith;
@@ -31,7 +31,7 @@ module _ (k l s : ℕ) where
     twice : p * l + l ≡ 2 * (k * l)
     twice = omega (arith, ap (λ (z : ℕ). z * l) ep)
 
-    pub least-some : Least k l s ((p * l + d) / (2 * s))
+    pub least-some : FirstAt k l s ((p * l + d) / (2 * s))
     least-some =
         record {
           low = let u : (p * l + d) / (2 * s) < l + 2 = div-lt-iff-lt-mul {k = 2 * s} {x = p * l + d} {y = l + 2} (omega arith) .1 (omega (arith, twice, mul-le-mul-right l h)) in omega arith;

@@ -4,36 +4,29 @@ use mathlib.Core.Path.{_≡_, refl, ap, _∙_}
 use mathlib.Core.List.{[], _++_}
 use mathlib.Core.Bool.{Bool, true, false, cond, _&&_}
 use borrow.Author.Tests.{le-leb, lt-leb}
-use Rattle.laws.proofs.Tests.{and-l, and-r, is-true, from-true}
 use Rattle.sheet.specs.Sheet.{inLimits}
 use Rattle.sheet.specs.Inner.{movedCell, loweredCell}
+use Rattle.sheet.specs.Figure.{cellValues}
 use Rattle.sheet.specs.Reply.{done}
 use Rattle.sheet.specs.declared.Cell.{Cell}
 use Rattle.sheet.specs.declared.Spot.{Spot}
-use Rattle.sheet.proofs.Limits.{lifted-cell}
 use Rattle.line.specs.Rule.{long}
 use Rattle.line.specs.Listing.{listed}
 use Rattle.line.specs.Inner.Course.{spotAt, lesserSpot, courseOf, Runs}
-use Rattle.line.specs.Pen.{cellValues, penValues, toldStep, toldAsked, hasCell, nextCell, movedOn, nextAnswer, askAnswer, left, keptOf}
+use Rattle.line.specs.Pen.{penValues, toldStep, toldAsked, hasCell, nextCell, movedOn, nextAnswer, askAnswer, left, keptOf}
 use Rattle.line.specs.Inner.Step.{askedOf}
 use Rattle.line.specs.declared.Course.{Course}
 use Rattle.line.specs.declared.pen.Pen.{Pen}
 use Rattle.line.specs.declared.pen.Step.{Step}
 use Rattle.line.specs.declared.pen.Step.the-variants as step
 use Rattle.line.specs.declared.pen.Asked.{Asked}
-use Rattle.line.proofs.Bridge.{course-runs, course-long}
+use Rattle.line.proofs.Bridge.{first-in, second-in, ends-lifted, course-runs, course-long}
 use Rattle.line.proofs.Within.{listed-cell}
 use Rattle.line.proofs.Replies.{step-one}
 
 -- both ends are within the limits
 abbrev pub Takes : Cell → Cell → Type 0
 Takes a b = (inLimits a && inLimits b) ≡ true
-
-first-in : (a b : Cell) → Takes a b → inLimits a ≡ true
-first-in a b e = is-true (inLimits a) (and-l (inLimits a) (inLimits b) (from-true (inLimits a && inLimits b) e))
-
-second-in : (a b : Cell) → Takes a b → inLimits b ≡ true
-second-in a b e = is-true (inLimits b) (and-r (inLimits a) (inLimits b) (from-true (inLimits a && inLimits b) e))
 
 -- the course of the line between such ends: what inner functions are promised, its length and its cells
 pub record Courses (a b : Cell) (p q : Spot) (k : Course) : Type 0 where
@@ -43,15 +36,12 @@ pub record Courses (a b : Cell) (p q : Spot) (k : Course) : Type 0 where
 
 pub courses : (a b : Cell) (p q : Spot) (k : Course) → Takes a b → p ≡ movedCell a → q ≡ movedCell b → k ≡ courseOf p q → Courses a b p q k
 courses a b p q k e f g h =
-    let ea = first-in a b e in
-    let eb = second-in a b e in
-    let P = lifted-cell a p ea f in
-    let Q = lifted-cell b q eb g in
+    let l = ends-lifted a b e p q f g in
     rw h
     (record {
-      runs = course-runs a b p q P Q;
-      steps = course-long a b p q P Q;
-      cells = λ t u n l. rw u (listed-cell a b p q ea eb P Q n l);
+      runs = course-runs a b p q (l .0) (l .1);
+      steps = course-long a b p q (l .0) (l .1);
+      cells = λ t u n m. rw u (listed-cell a b p q (first-in a b e) (second-in a b e) (l .0) (l .1) n m);
     })
 
 -- whether a pen has a cell to answer, and its answer

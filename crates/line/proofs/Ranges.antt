@@ -6,7 +6,7 @@ use mathlib.Core.Logic.{_⊎_, inl, inr, ⊎-elim}
 use native.Mathlib.Omega.{arith}
 use Rattle.sheet.specs.declared.Shape.{Shape}
 use Rattle.line.specs.Inner.Course.{stepped, spotAt}
-use Rattle.line.specs.Inner.Span.{enters, leaves, stepsX, stepsY, Least, Enters, Leaves, Spans}
+use Rattle.line.specs.Inner.Span.{enters, leaves, stepsX, stepsY, FirstAt, Enters, Leaves, Spans}
 use Rattle.line.specs.declared.Course.{Course}
 
 -- along one axis: k steps from m are on the sheet just where they are in the range
@@ -32,7 +32,7 @@ module _ (k : Shape) (c : Course) (x y along across least r : ℕ) where
   Bounds steep = (along ≡ cond steep y x) × (across ≡ cond steep x y)
 
   enters-by : (steep : Bool) → c .steep ≡ steep → x ≡ enters (c .right) (c .x) (k .width) → y ≡ enters true (c .y) (k .height) → Bounds steep
-      → Least across (c .long) (c .short) least → (along ≤ r) × (least ≤ r) × ((r ≡ along) ⊎ (r ≡ least)) → Enters k c r
+      → FirstAt across (c .long) (c .short) least → (along ≤ r) × (least ≤ r) × ((r ≡ along) ⊎ (r ≡ least)) → Enters k c r
   enters-by true e ex ey b u v =
       record {
         x-in = λ n a l. let z = u .from n a (omega arith) in rw e (omega arith);
@@ -47,7 +47,7 @@ module _ (k : Shape) (c : Course) (x y along across least r : ℕ) where
       }
 
   leaves-by : (steep : Bool) → c .steep ≡ steep → x ≡ leaves (c .right) (c .x) (k .width) → y ≡ leaves true (c .y) (k .height) → Bounds steep
-      → Least across (c .long) (c .short) least → (r ≤ along) × (r ≤ least) × ((r ≡ along) ⊎ (r ≡ least)) → Leaves k c r
+      → FirstAt across (c .long) (c .short) least → (r ≤ along) × (r ≤ least) × ((r ≡ along) ⊎ (r ≡ least)) → Leaves k c r
   leaves-by true e ex ey b u v =
       record {
         low = omega (arith, u .low);
@@ -64,11 +64,11 @@ module _ (k : Shape) (c : Course) (x y along across least r : ℕ) where
       }
 
   pub enters-is : x ≡ enters (c .right) (c .x) (k .width) → y ≡ enters true (c .y) (k .height) → along ≡ cond (c .steep) y x → across ≡ cond (c .steep) x y
-      → Least across (c .long) (c .short) least → (along ≤ r) × (least ≤ r) × ((r ≡ along) ⊎ (r ≡ least)) → Enters k c r
+      → FirstAt across (c .long) (c .short) least → (along ≤ r) × (least ≤ r) × ((r ≡ along) ⊎ (r ≡ least)) → Enters k c r
   enters-is ex ey a b u v = enters-by (c .steep) refl ex ey (a, b) u v
 
   pub leaves-is : x ≡ leaves (c .right) (c .x) (k .width) → y ≡ leaves true (c .y) (k .height) → along ≡ cond (c .steep) y x → across ≡ cond (c .steep) x y
-      → Least across (c .long) (c .short) least → (r ≤ along) × (r ≤ least) × ((r ≡ along) ⊎ (r ≡ least)) → Leaves k c r
+      → FirstAt across (c .long) (c .short) least → (r ≤ along) × (r ≤ least) × ((r ≡ along) ⊎ (r ≡ least)) → Leaves k c r
   leaves-is ex ey a b u v = leaves-by (c .steep) refl ex ey (a, b) u v
 
 -- both bounds make the range

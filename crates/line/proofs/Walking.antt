@@ -15,7 +15,7 @@ use Rattle.sheet.proofs.Cells.{place-below}
 use Rattle.sheet.proofs.Count.{cells-as}
 use Rattle.sheet.proofs.Paint.{paint-length}
 use Rattle.line.specs.Inner.Course.{spotAt, Runs, firstCells}
-use Rattle.line.specs.Inner.Fixed.{slope, tally}
+use Rattle.line.specs.Inner.Fixed.{gradient, tally}
 use Rattle.line.specs.Inner.Span.{On, Spans, byteOf, aloneBy, bothBy}
 use Rattle.line.specs.declared.Course.{Course}
 use Rattle.line.proofs.Fixed.{part-next, rise-next}
@@ -62,7 +62,7 @@ module _ (k : Shape) (ink : ℕ) (c : Course) (first past : ℕ) (r : Runs c) (r
     at-below = omega (arith, g .at-is lt, g .kept, on-below k c n (range .on n (g .from) lt))
 
     pub turn : (wide : k .width ≤ 4096) → (high : k .height ≤ 4096) → (f by next at′ : ℕ)
-        → f ≡ slope (c .long) (c .short)
+        → f ≡ gradient (c .long) (c .short)
         → next ≡ (part + f) % 2 ^ 32
         → by ≡ cond (ltb next part) (bothBy (c .right) (k .width)) (aloneBy (c .right) (c .steep) (k .width))
         → at′ ≡ (at + by) % 2 ^ 64

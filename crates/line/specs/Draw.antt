@@ -1,18 +1,22 @@
--- The answer of drawing a line.
+-- Drawing a line.
 use Prim.Native.Nat.{ℕ}
 use mathlib.Core.List.{[], _∷_}
 use mathlib.Core.Bool.{_&&_}
 use lib.IntN.{pos}
 use Rattle.sheet.specs.Sheet.{fits, inLimits, cellsOn}
 use Rattle.sheet.specs.Reply.{Answer, done, unless}
+use Rattle.sheet.specs.Drawing.{Drawing, only}
 use Rattle.sheet.specs.declared.Cell.{Cell}
 use Rattle.sheet.specs.declared.Shape.{Shape}
 use Rattle.sheet.specs.declared.Refusal.the-variants.{Size, Coordinate}
 use Rattle.line.specs.Rule.{onLine}
 
 -- 1, 2, else 0 with the number of the line's cells on the sheet, for a slice of n bytes
-unfoldable pub lineAnswer : Shape → ℕ → Cell → Cell → Answer
-lineAnswer k n a b =
+unfoldable pub lineAnswer : Shape → Cell → Cell → ℕ → Answer
+lineAnswer k a b n =
     unless (fits k n) Size
     (unless (inLimits a && inLimits b) Coordinate
     (done (pos (cellsOn k (onLine a b)) ∷ [])))
+
+abbrev pub lineDrawing : Shape → ℕ → Cell → Cell → Drawing
+lineDrawing k ink a b = record { shape = k; answer = lineAnswer k a b; figures = only ink (onLine a b) }

@@ -6,6 +6,7 @@ use lib.Dec.{leb}
 use lib.IntN.{ℤ, pos}
 use Rattle.sheet.specs.Sheet.{inLimits}
 use Rattle.sheet.specs.Reply.{Answer, done, refuse, unless}
+use Rattle.sheet.specs.Figure.{cellValues}
 use Rattle.sheet.specs.declared.Cell.{Cell}
 use Rattle.sheet.specs.declared.Refusal.the-variants.{Coordinate}
 use Rattle.line.specs.Rule.{long}
@@ -18,10 +19,7 @@ use Rattle.line.specs.declared.pen.Step.the-variants as step
 use Rattle.line.specs.declared.pen.Asked.{Asked}
 use Rattle.line.specs.declared.pen.Asked.the-variants as asked
 
--- the values that tell a cell, and a pen
-abbrev pub cellValues : Cell → List ℤ
-cellValues c = c .x ∷ c .y ∷ []
-
+-- the values that tell a pen
 abbrev pub penValues : Pen → List ℤ
 penValues p = cellValues (p .from) ++ cellValues (p .to) ++ pos (p .told) ∷ []
 

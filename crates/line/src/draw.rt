@@ -3,24 +3,24 @@ ghost use mathlib.Core.Path.{_≡_};
 ghost use mathlib.Core.Logic.{_⊎_};
 ghost use mathlib.Core.Bool.{true, cond};
 ghost use Prim.Native.Nat.{_+_, _-_, _*_, _/_, _%_, _≤_, _<_};
-ghost use lib.ListN.{length};
 ghost use Rattle.sheet.specs.Sheet.{paint, cellsOn};
-ghost use Rattle.sheet.specs.Reply.{settled};
-ghost use Rattle.sheet.specs.Counted.{toldCounted};
+ghost use Rattle.sheet.specs.Reply.{told};
+ghost use Rattle.sheet.specs.Drawing.{Draws};
 ghost use Rattle.sheet.specs.Inner.{Sheet};
-ghost use Rattle.line.specs.Rule.{rise, onLine};
-ghost use Rattle.line.specs.Draw.{lineAnswer};
+ghost use Rattle.line.specs.Rule.{rise};
+ghost use Rattle.line.specs.Draw.{lineDrawing};
 ghost use Rattle.line.specs.Inner.Course.{spotAt, Runs, firstCells};
 ghost use Rattle.line.specs.Inner.Fixed.{gone};
-ghost use Rattle.line.specs.Inner.Span.{enters, leaves, Least, Enters, Leaves, On, Spans, byteOf, aloneBy, bothBy};
+ghost use Rattle.line.specs.Inner.Span.{enters, leaves, FirstAt, Enters, Leaves, On, Spans, byteOf, aloneBy, bothBy};
 use crate::Course;
 use crate::chosen;
 use crate::course_of;
-use crate::slope_of;
+use crate::gradient_of;
+use crate::in_limits;
 use crate::spot_of;
 use sheet::Cell;
-use sheet::Counted;
 use sheet::Refusal;
+use sheet::Reply;
 use sheet::Shape;
 use sheet::Spot;
 
@@ -61,7 +61,7 @@ fn steps_past(up: bool, m: u32, size: u32) -> u32
 // The first n at which the shorter extent has come k steps; l + 1 where none has.
 fn least_n(k: u32, l: u32, s: u32) -> u32
     requires { ⌜ (s ≤ l) × (l ≤ 32767) ⌝ }
-    ensures { λ r. ⌜ Least k l s r ⌝ }
+    ensures { λ r. ⌜ FirstAt k l s r ⌝ }
 {
     if k < 1 {
         return 0;
@@ -185,7 +185,8 @@ fn chosen_step(first: bool, a: usize, b: usize) -> usize
 // The byte's place after a turn: a step along both extents, or along the longer alone.
 fn hop(shape: Shape, course: Course, at: usize, across: bool) -> usize
     requires { ⌜ 1 ≤ shape .width ⌝ }
-    ensures { λ r. ⌜ r ≡ (at + cond across (bothBy (course .right) (shape .width)) (aloneBy (course .right) (course .steep) (shape .width))) % 18446744073709551616 ⌝ }
+    ensures { λ r. ⌜ r ≡ (at + cond across (bothBy (course .right) (shape .width))
+        (aloneBy (course .right) (course .steep) (shape .width))) % 18446744073709551616 ⌝ }
 {
     let two = both(course.right, shape.width);
     let one = alone(course.right, course.steep, shape.width);
@@ -198,7 +199,7 @@ fn walk(sheet: &mut [u8], shape: Shape, ink: u8, course: Course, first: u32, pas
     requires { ⌜ (first < past) × Spans shape course first past ⌝ }
     ensures { λ r. ⌜ now (sheet .exit) ≡ paint shape ink (firstCells course (course .long + 1)) (now (sheet .entry)) ⌝ }
 {
-    let f = slope_of(course.long, course.short);
+    let f = gradient_of(course.long, course.short);
     let t = tally_at(course.long, f, first);
     let mut p = part(t);
     let mut at = byte_at(shape, course, first, whole(t));
@@ -223,7 +224,7 @@ fn ends(sheet: &mut [u8], shape: Shape, ink: u8, course: Course)
     sheet::ink_at(sheet, shape, ink, last);
 }
 
-// Inks a line that is wholly on the sheet; a short one needs no slope.
+// Inks a line that is wholly on the sheet; a short one needs no gradient.
 fn whole_line(sheet: &mut [u8], shape: Shape, ink: u8, course: Course)
     requires { ⌜ Sheet shape (now sheet) × Runs course × Spans shape course 0 (course .long + 1) ⌝ }
     ensures { λ r. ⌜ now (sheet .exit) ≡ paint shape ink (firstCells course (course .long + 1)) (now (sheet .entry)) ⌝ }
@@ -238,7 +239,8 @@ fn whole_line(sheet: &mut [u8], shape: Shape, ink: u8, course: Course)
 // Inks the cells of a line that are on the sheet; how many they are.
 fn run(sheet: &mut [u8], shape: Shape, ink: u8, course: Course) -> u32
     requires { ⌜ Sheet shape (now sheet) × Runs course ⌝ }
-    ensures { λ r. ⌜ (r ≡ cellsOn shape (firstCells course (course .long + 1))) × (now (sheet .exit) ≡ paint shape ink (firstCells course (course .long + 1)) (now (sheet .entry))) ⌝ }
+    ensures { λ r. ⌜ (r ≡ cellsOn shape (firstCells course (course .long + 1)))
+        × (now (sheet .exit) ≡ paint shape ink (firstCells course (course .long + 1)) (now (sheet .entry))) ⌝ }
 {
     if is_whole(shape, course) {
         whole_line(sheet, shape, ink, course);
@@ -254,19 +256,15 @@ fn run(sheet: &mut [u8], shape: Shape, ink: u8, course: Course) -> u32
 }
 
 // Draws the line from one end to the other.
-pub fn draw_line(sheet: &mut [u8], shape: Shape, ink: u8, from: Cell, to: Cell) -> Counted
-    ensures { λ r. ⌜ toldCounted r ≡ lineAnswer shape (length (now (sheet .entry))) from to ⌝ }
-    ensures { λ r. ⌜ now (sheet .exit) ≡ settled (lineAnswer shape (length (now (sheet .entry))) from to) (paint shape ink (onLine from to) (now (sheet .entry))) (now (sheet .entry)) ⌝ }
+pub fn draw_line(sheet: &mut [u8], shape: Shape, ink: u8, from: Cell, to: Cell) -> Reply
+    ensures { λ r. ⌜ Draws (lineDrawing shape ink from to) (now (sheet .entry)) (told r) (now (sheet .exit)) ⌝ }
 {
     if !sheet::fits(shape, sheet.len()) {
-        return Counted::Refused(Refusal::Size);
+        return Reply::Refused(Refusal::Size);
     }
-    if !sheet::in_limits(from) {
-        return Counted::Refused(Refusal::Coordinate);
-    }
-    if !sheet::in_limits(to) {
-        return Counted::Refused(Refusal::Coordinate);
+    if !in_limits(from, to) {
+        return Reply::Refused(Refusal::Coordinate);
     }
     let course = course_of(sheet::lift_cell(from), sheet::lift_cell(to));
-    Counted::Done(run(sheet, shape, ink, course))
+    Reply::Counted(run(sheet, shape, ink, course) as usize)
 }

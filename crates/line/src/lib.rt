@@ -1,10 +1,12 @@
 // Lines: the drawing, the listing and the pen, all by one rule.
 ghost use mathlib.Core.Path.{_≡_};
-ghost use mathlib.Core.Bool.{cond};
+ghost use mathlib.Core.Bool.{cond, _&&_};
 ghost use Prim.Native.Nat.{_≤_};
+ghost use Rattle.sheet.specs.Sheet.{inLimits};
 ghost use Rattle.line.specs.Inner.Course.{gap, stepped, spotAt, lesserSpot, courseFrom, courseOf, Runs};
 ghost use Rattle.line.specs.Rule.{rise};
-ghost use Rattle.line.specs.Inner.Fixed.{slope};
+ghost use Rattle.line.specs.Inner.Fixed.{gradient};
+use sheet::Cell;
 use sheet::Spot;
 
 mod draw;
@@ -27,6 +29,13 @@ struct Course {
     steep: bool,
     long: u32,
     short: u32,
+}
+
+// Whether both ends are within the limits.
+fn in_limits(from: Cell, to: Cell) -> bool
+    ensures { λ r. ⌜ r ≡ (inLimits from && inLimits to) ⌝ }
+{
+    sheet::in_limits(from) & sheet::in_limits(to)
 }
 
 fn chosen(first: bool, a: u32, b: u32) -> u32
@@ -101,9 +110,9 @@ fn spot_of(course: Course, n: u32, q: u32) -> Spot
 }
 
 // The shorter extent over the longer, in parts of 2^32 (rounded down, and a little less, so that it fits).
-fn slope_of(l: u32, s: u32) -> u32
+fn gradient_of(l: u32, s: u32) -> u32
     requires { ⌜ (s ≤ l) × (l ≤ 32767) ⌝ }
-    ensures { λ r. ⌜ r ≡ slope l s ⌝ }
+    ensures { λ r. ⌜ r ≡ gradient l s ⌝ }
 {
     if l < 1 {
         return 0;

@@ -4,21 +4,21 @@ ghost use mathlib.Core.Bool.{cond, _&&_};
 ghost use Prim.Native.Nat.{_+_, _≤_, _<_};
 ghost use lib.Dec.{leb};
 ghost use lib.ListN.{length, set};
-ghost use Rattle.sheet.specs.Reply.{settled};
-ghost use Rattle.sheet.specs.Counted.{toldCounted};
+ghost use Rattle.sheet.specs.Reply.{told};
 ghost use Rattle.sheet.specs.Inner.{unmoved};
-ghost use Rattle.line.specs.Listing.{listAnswer, listedOver};
+ghost use Rattle.line.specs.Listing.{ListsInto};
 ghost use Rattle.line.specs.Inner.Course.{Runs};
 ghost use Rattle.line.specs.Inner.Fixed.{gone};
-ghost use Rattle.line.specs.Inner.Along.{over, reached, along, Bounded, courseCell};
+ghost use Rattle.line.specs.Inner.Along.{over, reached, ithAlong, Bounded, courseCell};
 use crate::Course;
 use crate::chosen;
 use crate::course_of;
+use crate::gradient_of;
+use crate::in_limits;
 use crate::is_lesser;
-use crate::slope_of;
 use sheet::Cell;
-use sheet::Counted;
 use sheet::Refusal;
+use sheet::Reply;
 
 // Stores the coordinate that m stands for.
 fn put(list: &mut [i32], at: usize, m: u32)
@@ -52,7 +52,7 @@ fn reached_at(up: bool, m: u32, l: u32, f: u64, n: u32) -> u64
 // Lists one coordinate of each cell, f parts from the one to the next.
 fn list_along(list: &mut [i32], first: bool, up: bool, m: u32, l: u32, f: u64)
     requires { ⌜ Bounded m l f × (l < length (now list)) ⌝ }
-    ensures { λ r. ⌜ now (list .exit) ≡ over (along first up m l f) (l + 1) (now (list .entry)) ⌝ }
+    ensures { λ r. ⌜ now (list .exit) ≡ over (ithAlong first up m l f) (l + 1) (now (list .entry)) ⌝ }
 {
     let cells = l as usize + 1;
     let gains = chosen_parts(up == first, f, 0);
@@ -69,11 +69,12 @@ fn list_along(list: &mut [i32], first: bool, up: bool, m: u32, l: u32, f: u64)
 // Lists the cells of a course from its lesser end, or from the other.
 fn list_course(xs: &mut [i32], ys: &mut [i32], course: Course, first: bool)
     requires { ⌜ Runs course × (course .long < length (now xs)) × (course .long < length (now ys)) ⌝ }
-    ensures { λ r. ⌜ (now (xs .exit) ≡ over (λ i. courseCell first course i .x) (course .long + 1) (now (xs .entry))) × (now (ys .exit) ≡ over (λ i. courseCell first course i .y) (course .long + 1) (now (ys .entry))) ⌝ }
+    ensures { λ r. ⌜ (now (xs .exit) ≡ over (λ i. courseCell first course i .x) (course .long + 1) (now (xs .entry)))
+        × (now (ys .exit) ≡ over (λ i. courseCell first course i .y) (course .long + 1) (now (ys .entry))) ⌝ }
 {
     let long = course.long;
     let steep = course.steep;
-    let f = slope_of(long, course.short) as u64;
+    let f = gradient_of(long, course.short) as u64;
     let one = 4294967296;
     list_along(
         xs,
@@ -95,22 +96,19 @@ fn has_room(l: u32, n: usize, m: usize) -> bool
 }
 
 // Lists the cells of a line from its first named end to its second: x into one list, y into the other.
-pub fn list_line(xs: &mut [i32], ys: &mut [i32], from: Cell, to: Cell) -> Counted
-    ensures { λ r. ⌜ toldCounted r ≡ listAnswer (length (now (xs .entry))) (length (now (ys .entry))) from to ⌝ }
-    ensures { λ r. ⌜ now (xs .exit) ≡ settled (listAnswer (length (now (xs .entry))) (length (now (ys .entry))) from to) (listedOver (λ c. c .x) from to (now (xs .entry))) (now (xs .entry)) ⌝ }
-    ensures { λ r. ⌜ now (ys .exit) ≡ settled (listAnswer (length (now (xs .entry))) (length (now (ys .entry))) from to) (listedOver (λ c. c .y) from to (now (ys .entry))) (now (ys .entry)) ⌝ }
+pub fn list_line(xs: &mut [i32], ys: &mut [i32], from: Cell, to: Cell) -> Reply
+    ensures { λ r. ⌜ ListsInto from to (now (xs .entry)) (now (ys .entry)) (told r) (now (xs .exit)) (now (ys .exit)) ⌝ }
 {
-    let inside = sheet::in_limits(from) & sheet::in_limits(to);
-    if !inside {
-        return Counted::Refused(Refusal::Coordinate);
+    if !in_limits(from, to) {
+        return Reply::Refused(Refusal::Coordinate);
     }
     let a = sheet::lift_cell(from);
     let b = sheet::lift_cell(to);
     let course = course_of(a, b);
     let long = course.long;
     if !has_room(long, xs.len(), ys.len()) {
-        return Counted::Refused(Refusal::Room);
+        return Reply::Refused(Refusal::Room);
     }
     list_course(xs, ys, course, is_lesser(a, b));
-    Counted::Done(long + 1)
+    Reply::Counted(long as usize + 1)
 }

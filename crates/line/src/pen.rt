@@ -1,8 +1,7 @@
 // The pen: asked again and again, it answers the cells of the listing one by one.
 ghost use mathlib.Core.Path.{_≡_};
-ghost use mathlib.Core.Bool.{cond, _&&_};
+ghost use mathlib.Core.Bool.{cond};
 ghost use Prim.Native.Nat.{_-_, _≤_};
-ghost use Rattle.sheet.specs.Sheet.{coordinate, inLimits};
 ghost use Rattle.sheet.specs.Inner.{loweredCell};
 ghost use Rattle.line.specs.Rule.{rise};
 ghost use Rattle.line.specs.Inner.Course.{spotAt, Runs};
@@ -11,6 +10,7 @@ ghost use Rattle.line.specs.Inner.Step.{askedOf};
 use crate::Course;
 use crate::chosen;
 use crate::course_of;
+use crate::in_limits;
 use crate::is_lesser;
 use crate::spot_of;
 use sheet::Cell;
@@ -65,35 +65,16 @@ fn cell_at(course: Course, forward: bool, n: u32) -> Cell
 }
 
 impl Pen {
-    // The limits of a coordinate.
-    pub const LEAST: i32 = -16384;
+    // The limits of a coordinate of its ends.
+    pub const LEAST: i32 = Cell::LEAST;
 
-    pub const MOST: i32 = 16383;
-
-    // Whether a coordinate, a cell, and both ends are within them.
-    fn takes(z: i32) -> bool
-        ensures { λ r. ⌜ r ≡ coordinate z ⌝ }
-    {
-        (Pen::LEAST <= z) & (z <= Pen::MOST)
-    }
-
-    fn takes_cell(cell: Cell) -> bool
-        ensures { λ r. ⌜ r ≡ inLimits cell ⌝ }
-    {
-        Pen::takes(cell.x) & Pen::takes(cell.y)
-    }
-
-    fn takes_ends(from: Cell, to: Cell) -> bool
-        ensures { λ r. ⌜ r ≡ (inLimits from && inLimits to) ⌝ }
-    {
-        Pen::takes_cell(from) & Pen::takes_cell(to)
-    }
+    pub const MOST: i32 = Cell::MOST;
 
     // A pen that has answered no cell.
     pub fn begin(from: Cell, to: Cell) -> Begun
         ensures { λ r. ⌜ toldBegun r ≡ beginAnswer from to ⌝ }
     {
-        if !Pen::takes_ends(from, to) {
+        if !in_limits(from, to) {
             return Begun::Refused(Refusal::Coordinate);
         }
         Begun::Pen(Pen { from, to, told: 0 })
@@ -106,7 +87,7 @@ impl Pen {
         let first = self.from;
         let second = self.to;
         let told = self.told;
-        if !Pen::takes_ends(first, second) {
+        if !in_limits(first, second) {
             return Step::Finished;
         }
         let a = lift_cell(first);

@@ -6,17 +6,18 @@ use mathlib.Core.Bool.{Bool, true, false, cond, _&&_}
 use native.Mathlib.Omega.{arith}
 use lib.IntN.{ℤ}
 use Rattle.sheet.specs.Sheet.{inLimits}
+use Rattle.sheet.specs.Figure.{cellValues}
 use Rattle.sheet.specs.Reply.{Answer, done, unless, settled}
 use Rattle.sheet.specs.declared.Cell.{Cell}
 use Rattle.sheet.specs.declared.Refusal.the-variants.{Coordinate}
-use Rattle.line.specs.Pen.{cellValues, penValues, fresh, toldBegun, beginAnswer, hasCell, nextCell, movedOn, left, toldAsked, askAnswer}
+use Rattle.line.specs.Pen.{penValues, fresh, toldBegun, beginAnswer, hasCell, nextCell, movedOn, left, toldAsked, askAnswer}
 use Rattle.line.specs.declared.pen.Pen.{Pen}
 use Rattle.line.specs.declared.pen.Begun.{Begun}
 use Rattle.line.specs.declared.pen.Begun.the-variants as begun
 use Rattle.line.specs.declared.pen.Asked.{Asked}
 use Rattle.line.specs.declared.pen.Asked.the-variants as asked
 use Rattle.line.proofs.Replies.{begun-one, asked-one}
-use Rattle.survey.specs.Metres.{cell}
+use Rattle.sheet.specs.Sheet.{cell}
 use Rattle.pistonwool.specs.Inner.{askedNumber, askedCell}
 
 -- the pen that a beginning leaves where another was before

@@ -1,38 +1,85 @@
--- What the callee told, told on: the number, the value and what is lent.
-use Prim.Native.Nat.{ℕ}
-use mathlib.Core.Path.{_≡_, ap, ap₂, _∙_}
-use lib.IntN.{ℤ}
+-- What the callee told, told on to C: the number, and the value.
+use Prim.Native.Nat.{ℕ, _<_}
+use mathlib.Core.Path.{_≡_, refl, sym, subst, ap, ap₂, _∙_}
+use mathlib.Core.List.{List, [], _∷_}
+use mathlib.Core.Bool.{Bool, true, false}
+use native.Mathlib.Omega.{arith}
+use lib.Dec.{eqb}
+use lib.IntN.{ℤ, pos}
+use lib.ListN.{length}
 use mir.Syntax.{w32}
 use mir.Val.{SFits, toZ, ofZ}
 use mir.Facts.{toZ-ofZ}
-use Rattle.sheet.specs.Reply.{Answer, refuse, settled}
+use Rattle.sheet.specs.Sheet.{cell}
+use Rattle.sheet.specs.Reply as reply
+use Rattle.sheet.specs.Reply.{Answer, number, refuse, unless, valueOf, settled}
+use Rattle.sheet.specs.Drawing.{Drawing, Draws}
 use Rattle.sheet.specs.declared.Cell.{Cell}
 use Rattle.sheet.specs.declared.Refusal.{Refusal}
 use Rattle.sheet.proofs.Unique.{number-not-0}
-use Rattle.survey.specs.Metres.{cell}
-use Rattle.pistonwool.specs.Told.{firstValue}
-
--- a refusal leaves what was before
-pub kept : (r : Refusal) (before : ℕ) → before ≡ firstValue (refuse r) before
-kept r before = simp (number-not-0 r)
+use Rattle.line.specs.Listing.{listAnswer, ListsInto}
+use Rattle.pistonwool.specs.Told.{numbered, counted, Keeps}
 
 -- a cell, as the machine reads its coordinates back from their bits
 pub cell-back : (x y : ℤ) → SFits w32 x → SFits w32 y → cell (toZ w32 (ofZ w32 x)) (toZ w32 (ofZ w32 y)) ≡ cell x y
 cell-back x y f g = ap₂ cell (toZ-ofZ f) (toZ-ofZ g)
 
--- the two ends of a line
-pub both : {a b c d : Cell} → a ≡ c → b ≡ d → _≡_ {A = Cell × Cell} (a, b) (c, d)
-both p q = λ i. (p i, q i)
+-- an answer that is a refusal, or done with values of a form
+pub data Tells (P : List ℤ → Type 0) : (a : Answer) → Type 0 where
+  refused : (r : Refusal) → Tells P (refuse r)
+  done : (v : List ℤ) → P v → Tells P (reply.done v)
 
--- what was told of an answer is told of its equal
-module _ (a b : Answer) (e : a ≡ b) where
-  pub number-told : (r : ℕ) → r ≡ a .number → r ≡ b .number
-  number-told r h = h ∙ ap (λ (x : Answer). x .number) e
+pub unless-tells : {P : List ℤ → Type 0} (t : Bool) (r : Refusal) (a : Answer) → (t ≡ true → Tells P a) → Tells P (unless t r a)
+unless-tells true r a h = h refl
+unless-tells false r a h = refused r
 
-  pub value-told : (v before : ℕ) → v ≡ firstValue a before → v ≡ firstValue b before
-  value-told v before h = h ∙ ap (λ (x : Answer). firstValue x before) e
+-- with none: C is told the number
+abbrev pub None : List ℤ → Type 0
+None v = v ≡ []
 
--- and what is left of what was lent
-pub left : {C A : Type 0} (answer : C → Answer) (drawn : C → A) (p q : C) → p ≡ q → (before after : A)
-    → after ≡ settled (answer p) (drawn p) before → after ≡ settled (answer q) (drawn q) before
-left answer drawn p q e before after h = h ∙ ap (λ c. settled (answer c) (drawn c) before) e
+number-told : (a : Answer) → Tells None a → a ≡ numbered (a .number)
+number-told _ (Tells.refused r) = refl
+number-told _ (Tells.done v e) = ap reply.done e
+
+pub draws-number : (d : Drawing) (s t : List ℕ) (a : Answer) (n : ℕ) → Draws d s a t → Tells None (d .answer (length s)) → n ≡ a .number → Draws d s (numbered n) t
+draws-number d s t a n h p e =
+    let q = number-told a (subst (Tells None) (sym (h .tells)) p) in
+    subst (λ (b : Answer). Draws d s b t) (q ∙ ap numbered (sym e)) h
+
+-- with one that fits 32 bits: C is told the number and, where it is 0, the value
+pub record One (v : List ℤ) : Type 0 where
+  pub n : ℕ
+  pub is : v ≡ pos n ∷ []
+  pub small : n < 4294967296
+
+one-small : (a : Answer) → Tells One a → valueOf a < 4294967296
+one-small _ (Tells.refused r) = omega arith
+one-small _ (Tells.done v p) = subst (λ (n : ℕ). n < 4294967296) (sym (ap (λ (v : List ℤ). valueOf (reply.done v)) (p .is))) (p .small)
+
+count-told : (a : Answer) → Tells One a → (n v before : ℕ) → n ≡ a .number → v ≡ settled a (valueOf a) before → (a ≡ counted n v) × Keeps n before v
+count-told _ (Tells.refused r) n v before e f =
+    let no : eqb (number r) 0 ≡ false = number-not-0 r in
+    (rw e (simp no), λ z. f ∙ simp no)
+count-told _ (Tells.done w p) n v before e f = (rw (e, f) (ap reply.done (p .is) ∙ rw (p .is)), λ z. absurd (z e))
+
+pub draws-small : (d : Drawing) (s t : List ℕ) (a : Answer) → Draws d s a t → Tells One (d .answer (length s)) → valueOf a < 4294967296
+draws-small d s t a h p = one-small a (subst (Tells One) (sym (h .tells)) p)
+
+pub draws-count : (d : Drawing) (s t : List ℕ) (a : Answer) (n v before : ℕ) → Draws d s a t → Tells One (d .answer (length s))
+    → (n ≡ a .number) × (v ≡ settled a (valueOf a) before) → Draws d s (counted n v) t × Keeps n before v
+draws-count d s t a n v before h p e =
+    let q = count-told a (subst (Tells One) (sym (h .tells)) p) n v before (e .0) (e .1) in
+    (subst (λ (b : Answer). Draws d s b t) (q .0) h, q .1)
+
+-- the same of a listing
+pub lists-as : (a b c d : Cell) (xs ys xs′ ys′ : List ℤ) (r : Answer) → a ≡ c → b ≡ d → ListsInto a b xs ys r xs′ ys′ → ListsInto c d xs ys r xs′ ys′
+lists-as a b c d xs ys xs′ ys′ r e f h = rw (← e, ← f) h
+
+pub lists-small : (a b : Cell) (xs ys xs′ ys′ : List ℤ) (r : Answer) → ListsInto a b xs ys r xs′ ys′ → Tells One (listAnswer (length xs) (length ys) a b) → valueOf r < 4294967296
+lists-small a b xs ys xs′ ys′ r h p = one-small r (subst (Tells One) (sym (h .tells)) p)
+
+pub lists-count : (a b : Cell) (xs ys xs′ ys′ : List ℤ) (r : Answer) (n v before : ℕ) → ListsInto a b xs ys r xs′ ys′ → Tells One (listAnswer (length xs) (length ys) a b)
+    → (n ≡ r .number) × (v ≡ settled r (valueOf r) before) → ListsInto a b xs ys (counted n v) xs′ ys′ × Keeps n before v
+lists-count a b xs ys xs′ ys′ r n v before h p e =
+    let q = count-told r (subst (Tells One) (sym (h .tells)) p) n v before (e .0) (e .1) in
+    (subst (λ (c : Answer). ListsInto a b xs ys c xs′ ys′) (q .0) h, q .1)

@@ -1,3 +1,2 @@
-pub mod Boundary
 pub mod Inner
 pub mod Told

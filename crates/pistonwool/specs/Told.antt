@@ -1,22 +1,28 @@
--- What C is told: the numbers of an answer; and the sheet and the survey that its arguments are.
+-- What C is told: an answer's number, and its value where C lends a place for it; and the sheet and the survey that its arguments are.
 use Prim.Native.Nat.{ℕ}
+use mathlib.Core.Path.{_≡_}
 use mathlib.Core.List.{[], _∷_}
 use mathlib.Core.Bool.{cond}
 use lib.Dec.{eqb}
-use lib.ListN.{getD}
-use lib.IntN.{pos, natAbs}
+use lib.IntN.{pos}
 use lib.Ieee.{Float}
 use Rattle.sheet.specs.Reply.{Answer}
 use Rattle.sheet.specs.declared.Shape.{Shape}
 use Rattle.survey.specs.declared.Survey.{Survey}
 
--- the answer of a number and one value
+-- a number alone; one with a value where it is 0; one with a value in any case
+abbrev pub numbered : ℕ → Answer
+numbered n = record { number = n; values = [] }
+
+abbrev pub counted : ℕ → ℕ → Answer
+counted n v = record { number = n; values = cond (eqb n 0) (pos v ∷ []) [] }
+
 abbrev pub replied : ℕ → ℕ → Answer
 replied n v = record { number = n; values = pos v ∷ [] }
 
--- the first value of an answer that is done; a refusal, and an answer with no value, leave what was before
-abbrev pub firstValue : Answer → ℕ → ℕ
-firstValue a before = cond (eqb (a .number) 0) (natAbs (getD (a .values) 0 (pos before))) before
+-- a refusal leaves what was in the value's place
+abbrev pub Keeps : ℕ → ℕ → ℕ → Type 0
+Keeps n before after = (n ≡ 0 → ⊥) → after ≡ before
 
 -- the sheet of a width and a height, and the survey of its three numbers
 abbrev pub shapeOf : ℕ → ℕ → Shape

@@ -1,19 +1,13 @@
 // Figures in cells.
-ghost use mathlib.Core.Path.{_≡_};
 ghost use mathlib.Core.List.{[], _∷_};
-ghost use lib.ListN.{length};
-ghost use Rattle.sheet.specs.Sheet.{paint};
-ghost use Rattle.sheet.specs.Reply.{settled};
-ghost use Rattle.line.specs.Listing.{listAnswer, listedOver};
-ghost use Rattle.ring.specs.Ring.{onCircle, onEllipse};
-ghost use Rattle.ring.specs.Answer.{circleAnswer, ellipseAnswer};
-ghost use Rattle.curve.specs.Rule.{onCurve};
-ghost use Rattle.curve.specs.Draw.{curveAnswer};
-ghost use Rattle.survey.specs.Metres.{cell};
-ghost use Rattle.pistonwool.specs.Boundary.{LineDrawn};
-ghost use Rattle.pistonwool.specs.Told.{firstValue, shapeOf};
-use crate::number_of_counted;
-use crate::number_of_drawn;
+ghost use Rattle.sheet.specs.Sheet.{cell};
+ghost use Rattle.sheet.specs.Drawing.{Draws};
+ghost use Rattle.line.specs.Draw.{lineDrawing};
+ghost use Rattle.line.specs.Listing.{ListsInto};
+ghost use Rattle.ring.specs.Draw.{circleDrawing, ellipseDrawing};
+ghost use Rattle.curve.specs.Draw.{curveDrawing};
+ghost use Rattle.pistonwool.specs.Told.{shapeOf, numbered, counted, Keeps};
+use crate::tell_cells;
 use sheet::Cell;
 use sheet::Shape;
 
@@ -30,12 +24,14 @@ pub extern "C" fn pw_line(
     y1: i32,
     cells: &mut u32,
 ) -> u32
-    ensures { λ d. ⌜ LineDrawn width height ink x0 y0 x1 y1 (now (sheet .entry)) (now (cells .entry)) d (now (cells .exit)) (now (sheet .exit)) ⌝ }
+    ensures { λ d. ⌜ Draws (lineDrawing (shapeOf width height) ink (cell x0 y0) (cell x1 y1))
+        (now (sheet .entry)) (counted d (now (cells .exit))) (now (sheet .exit)) ⌝ }
+    ensures { λ d. ⌜ Keeps d (now (cells .entry)) (now (cells .exit)) ⌝ }
 {
     let shape = Shape { width, height };
     let from = Cell { x: x0, y: y0 };
     let to = Cell { x: x1, y: y1 };
-    number_of_counted(line::draw_line(sheet, shape, ink, from, to), cells)
+    tell_cells(line::draw_line(sheet, shape, ink, from, to), cells)
 }
 
 // Draws a circle.
@@ -49,12 +45,13 @@ pub extern "C" fn pw_circle(
     y: i32,
     r: u32,
 ) -> u32
-    ensures { λ d. ⌜ d ≡ circleAnswer (shapeOf width height) (length (now (sheet .entry))) (cell x y) r .number ⌝ }
-    ensures { λ d. ⌜ now (sheet .exit) ≡ settled (circleAnswer (shapeOf width height) (length (now (sheet .entry))) (cell x y) r) (paint (shapeOf width height) ink (onCircle (cell x y) r) (now (sheet .entry))) (now (sheet .entry)) ⌝ }
+    ensures { λ d. ⌜ Draws (circleDrawing (shapeOf width height) ink (cell x y) r)
+        (now (sheet .entry)) (numbered d) (now (sheet .exit)) ⌝ }
 {
     let shape = Shape { width, height };
     let centre = Cell { x, y };
-    number_of_drawn(ring::draw_circle(sheet, shape, ink, centre, r))
+    let reply = ring::draw_circle(sheet, shape, ink, centre, r);
+    reply.number()
 }
 
 // Draws an ellipse.
@@ -69,12 +66,13 @@ pub extern "C" fn pw_ellipse(
     a: u32,
     b: u32,
 ) -> u32
-    ensures { λ d. ⌜ d ≡ ellipseAnswer (shapeOf width height) (length (now (sheet .entry))) (cell x y) a b .number ⌝ }
-    ensures { λ d. ⌜ now (sheet .exit) ≡ settled (ellipseAnswer (shapeOf width height) (length (now (sheet .entry))) (cell x y) a b) (paint (shapeOf width height) ink (onEllipse (cell x y) a b) (now (sheet .entry))) (now (sheet .entry)) ⌝ }
+    ensures { λ d. ⌜ Draws (ellipseDrawing (shapeOf width height) ink (cell x y) a b)
+        (now (sheet .entry)) (numbered d) (now (sheet .exit)) ⌝ }
 {
     let shape = Shape { width, height };
     let centre = Cell { x, y };
-    number_of_drawn(ring::draw_ellipse(sheet, shape, ink, centre, a, b))
+    let reply = ring::draw_ellipse(sheet, shape, ink, centre, a, b);
+    reply.number()
 }
 
 // Draws a curve in 2^s pieces.
@@ -92,14 +90,15 @@ pub extern "C" fn pw_curve(
     y2: i32,
     s: u32,
 ) -> u32
-    ensures { λ d. ⌜ d ≡ curveAnswer (shapeOf width height) (length (now (sheet .entry))) (cell x0 y0 ∷ cell x1 y1 ∷ cell x2 y2 ∷ []) s .number ⌝ }
-    ensures { λ d. ⌜ now (sheet .exit) ≡ settled (curveAnswer (shapeOf width height) (length (now (sheet .entry))) (cell x0 y0 ∷ cell x1 y1 ∷ cell x2 y2 ∷ []) s) (paint (shapeOf width height) ink (onCurve (cell x0 y0 ∷ cell x1 y1 ∷ cell x2 y2 ∷ []) s) (now (sheet .entry))) (now (sheet .entry)) ⌝ }
+    ensures { λ d. ⌜ Draws (curveDrawing (shapeOf width height) ink (cell x0 y0 ∷ cell x1 y1 ∷ cell x2 y2 ∷ []) s)
+        (now (sheet .entry)) (numbered d) (now (sheet .exit)) ⌝ }
 {
     let shape = Shape { width, height };
     let p0 = Cell { x: x0, y: y0 };
     let p1 = Cell { x: x1, y: y1 };
     let p2 = Cell { x: x2, y: y2 };
-    number_of_drawn(curve::draw_curve(sheet, shape, ink, p0, p1, p2, s))
+    let reply = curve::draw_curve(sheet, shape, ink, p0, p1, p2, s);
+    reply.number()
 }
 
 // Lists the cells of a line from its first end; their number goes to cells, unless it is refused.
@@ -113,12 +112,11 @@ pub extern "C" fn pw_list(
     y1: i32,
     cells: &mut u32,
 ) -> u32
-    ensures { λ d. ⌜ d ≡ listAnswer (length (now (xs .entry))) (length (now (ys .entry))) (cell x0 y0) (cell x1 y1) .number ⌝ }
-    ensures { λ d. ⌜ now (cells .exit) ≡ firstValue (listAnswer (length (now (xs .entry))) (length (now (ys .entry))) (cell x0 y0) (cell x1 y1)) (now (cells .entry)) ⌝ }
-    ensures { λ d. ⌜ now (xs .exit) ≡ settled (listAnswer (length (now (xs .entry))) (length (now (ys .entry))) (cell x0 y0) (cell x1 y1)) (listedOver (λ c. c .x) (cell x0 y0) (cell x1 y1) (now (xs .entry))) (now (xs .entry)) ⌝ }
-    ensures { λ d. ⌜ now (ys .exit) ≡ settled (listAnswer (length (now (xs .entry))) (length (now (ys .entry))) (cell x0 y0) (cell x1 y1)) (listedOver (λ c. c .y) (cell x0 y0) (cell x1 y1) (now (ys .entry))) (now (ys .entry)) ⌝ }
+    ensures { λ d. ⌜ ListsInto (cell x0 y0) (cell x1 y1) (now (xs .entry)) (now (ys .entry))
+        (counted d (now (cells .exit))) (now (xs .exit)) (now (ys .exit)) ⌝ }
+    ensures { λ d. ⌜ Keeps d (now (cells .entry)) (now (cells .exit)) ⌝ }
 {
     let from = Cell { x: x0, y: y0 };
     let to = Cell { x: x1, y: y1 };
-    number_of_counted(line::list_line(xs, ys, from, to), cells)
+    tell_cells(line::list_line(xs, ys, from, to), cells)
 }

@@ -1,6 +1,7 @@
 // A whole file.
-ghost use Rattle.pistonwool.specs.Boundary.{FileDrawn};
-use crate::number_of_filed;
+ghost use Rattle.sheet.specs.Drawing.{Draws};
+ghost use Rattle.drawing.specs.File.{fileDrawing};
+ghost use Rattle.pistonwool.specs.Told.{shapeOf, replied};
 use sheet::Shape;
 
 // Draws a file; its number of records goes to value, or the offset of what is refused.
@@ -12,8 +13,11 @@ pub extern "C" fn pw_file(
     file: &[u8],
     value: &mut u64,
 ) -> u32
-    ensures { λ d. ⌜ FileDrawn width height (now (file .entry)) (now (sheet .entry)) d (now (value .exit)) (now (sheet .exit)) ⌝ }
+    ensures { λ d. ⌜ Draws (fileDrawing (shapeOf width height) (now (file .entry)))
+        (now (sheet .entry)) (replied d (now (value .exit))) (now (sheet .exit)) ⌝ }
 {
     let shape = Shape { width, height };
-    number_of_filed(drawing::draw_file(sheet, shape, file), value)
+    let reply = drawing::draw_file(sheet, shape, file);
+    *value = reply.value() as u64;
+    reply.number()
 }

@@ -1,14 +1,9 @@
 // Figures in metres.
-ghost use mathlib.Core.Path.{_≡_};
-ghost use lib.ListN.{length};
-ghost use Rattle.sheet.specs.Sheet.{paint};
-ghost use Rattle.sheet.specs.Reply.{settled};
+ghost use Rattle.sheet.specs.Drawing.{Draws};
 ghost use Rattle.survey.specs.declared.Metres.the-variants as metres;
-ghost use Rattle.drawing.specs.Metres.{metresAnswer, onMetres};
-ghost use Rattle.pistonwool.specs.Boundary.{MetresDrawn};
-ghost use Rattle.pistonwool.specs.Told.{shapeOf, surveyOf};
-use crate::cells_of_shown;
-use crate::number_of_shown;
+ghost use Rattle.drawing.specs.Metres.{metresDrawing};
+ghost use Rattle.pistonwool.specs.Told.{shapeOf, surveyOf, numbered, counted, Keeps};
+use crate::tell_cells;
 use sheet::Shape;
 use survey::Metres;
 use survey::Survey;
@@ -29,15 +24,17 @@ pub extern "C" fn pw_line_metres(
     y1: f64,
     cells: &mut u32,
 ) -> u32
-    ensures { λ d. ⌜ MetresDrawn width height ink (surveyOf east north size) x0 y0 x1 y1
-        (now (sheet .entry)) (now (cells .entry)) d (now (cells .exit)) (now (sheet .exit)) ⌝ }
+    ensures { λ d. ⌜ Draws (metresDrawing (shapeOf width height) ink (surveyOf east north size) (metres.Line x0 y0 x1 y1))
+        (now (sheet .entry)) (counted d (now (cells .exit))) (now (sheet .exit)) ⌝ }
+    ensures { λ d. ⌜ Keeps d (now (cells .entry)) (now (cells .exit)) ⌝ }
 {
     let shape = Shape { width, height };
     let survey = Survey { east, north, size };
     let figure = Metres::Line(x0, y0, x1, y1);
-    let reply = drawing::draw_metres(sheet, shape, ink, survey, figure);
-    cells_of_shown(reply, cells);
-    number_of_shown(reply)
+    tell_cells(
+        drawing::draw_metres(sheet, shape, ink, survey, figure),
+        cells,
+    )
 }
 
 // Draws a circle.
@@ -54,14 +51,14 @@ pub extern "C" fn pw_circle_metres(
     y: f64,
     r: f64,
 ) -> u32
-    ensures { λ d. ⌜ d ≡ metresAnswer (shapeOf width height) (length (now (sheet .entry))) (surveyOf east north size) (metres.Circle x y r) .number ⌝ }
-    ensures { λ d. ⌜ now (sheet .exit) ≡ settled (metresAnswer (shapeOf width height) (length (now (sheet .entry))) (surveyOf east north size) (metres.Circle x y r)) (paint (shapeOf width height) ink (onMetres (surveyOf east north size) (metres.Circle x y r)) (now (sheet .entry))) (now (sheet .entry)) ⌝ }
+    ensures { λ d. ⌜ Draws (metresDrawing (shapeOf width height) ink (surveyOf east north size) (metres.Circle x y r))
+        (now (sheet .entry)) (numbered d) (now (sheet .exit)) ⌝ }
 {
     let shape = Shape { width, height };
     let survey = Survey { east, north, size };
     let figure = Metres::Circle(x, y, r);
     let reply = drawing::draw_metres(sheet, shape, ink, survey, figure);
-    number_of_shown(reply)
+    reply.number()
 }
 
 // Draws an ellipse.
@@ -79,12 +76,12 @@ pub extern "C" fn pw_ellipse_metres(
     a: f64,
     b: f64,
 ) -> u32
-    ensures { λ d. ⌜ d ≡ metresAnswer (shapeOf width height) (length (now (sheet .entry))) (surveyOf east north size) (metres.Ellipse x y a b) .number ⌝ }
-    ensures { λ d. ⌜ now (sheet .exit) ≡ settled (metresAnswer (shapeOf width height) (length (now (sheet .entry))) (surveyOf east north size) (metres.Ellipse x y a b)) (paint (shapeOf width height) ink (onMetres (surveyOf east north size) (metres.Ellipse x y a b)) (now (sheet .entry))) (now (sheet .entry)) ⌝ }
+    ensures { λ d. ⌜ Draws (metresDrawing (shapeOf width height) ink (surveyOf east north size) (metres.Ellipse x y a b))
+        (now (sheet .entry)) (numbered d) (now (sheet .exit)) ⌝ }
 {
     let shape = Shape { width, height };
     let survey = Survey { east, north, size };
     let figure = Metres::Ellipse(x, y, a, b);
     let reply = drawing::draw_metres(sheet, shape, ink, survey, figure);
-    number_of_shown(reply)
+    reply.number()
 }

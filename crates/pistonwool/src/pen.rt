@@ -3,7 +3,7 @@ ghost use mathlib.Core.Path.{_≡_};
 ghost use mathlib.Core.Bool.{cond};
 ghost use Rattle.sheet.specs.Reply.{settled};
 ghost use Rattle.line.specs.Pen.{beginAnswer, fresh, hasCell, nextCell, left};
-ghost use Rattle.survey.specs.Metres.{cell};
+ghost use Rattle.sheet.specs.Sheet.{cell};
 ghost use Rattle.pistonwool.specs.Inner.{askedNumber, askedCell};
 use line::Asked;
 use line::Begun;

@@ -9,8 +9,8 @@ use Rattle.sheet.specs.Sheet.{place, fits}
 use Rattle.sheet.proofs.Empty.{Differ}
 use Rattle.record.specs.Reading.{foundAt, readAt}
 use Rattle.record.specs.File.{readIn, readFrom, readAll, fileAnswer}
-use Rattle.drawing.specs.File.{paintAll, drawFileAnswer}
-use Rattle.print.specs.Text.{inTurn, zeros, cell, line, picture, decimalIn, decimal, refusal, textOf, replyOf}
+use Rattle.drawing.specs.File.{drawFileAnswer}
+use Rattle.print.specs.Text.{inTurn, zeros, characterAt, line, picture, decimalIn, decimal, refusal, textOf, replyOf}
 
 -- 0, 10, 4083
 pub some-decimals : (decimal 0 ≡ 48 ∷ []) × (decimal 10 ≡ 49 ∷ 48 ∷ []) × (decimal 4083 ≡ 52 ∷ 48 ∷ 56 ∷ 51 ∷ [])
@@ -24,12 +24,12 @@ lone-byte b = refl
 
 -- the picture of the sheet of zeros
 pub empty-text : textOf [] ≡ picture zeros
-unfolding textOf drawFileAnswer fits fileAnswer readAll readFrom readIn readAt foundAt paintAll
+unfolding textOf drawFileAnswer fits fileAnswer readAll readFrom readIn readAt foundAt
 empty-text = refl
 
 -- A program that refuses all prints the line of a refusal, which begins with `r`, where the empty file's picture begins with `.`.
 pub text-shows : (number offset : ℕ) → refusal number offset ≡ textOf [] → ⊥
-unfolding textOf refusal picture line inTurn cell place drawFileAnswer fits fileAnswer readAll readFrom readIn readAt foundAt paintAll
+unfolding textOf refusal picture line inTurn characterAt place drawFileAnswer fits fileAnswer readAll readFrom readIn readAt foundAt
 text-shows number offset e = let z : _≡_ {A = ℕ} 114 46 = ap (λ (s : List ℕ). getD s 0 0) e in omega arith
 
 -- One that always prints the same has one text for a lone byte and for the empty file.
@@ -39,5 +39,5 @@ text-differs e = text-shows 8 0 (sym (lone-byte 0) ∙ e)
 
 -- and one for the empty file read whole and for a read that failed, whose line begins with `i`
 pub reply-differs : Differ (λ (whole : Bool). replyOf whole []) true false
-unfolding replyOf textOf picture line inTurn cell place drawFileAnswer fits fileAnswer readAll readFrom readIn readAt foundAt paintAll
+unfolding replyOf textOf picture line inTurn characterAt place drawFileAnswer fits fileAnswer readAll readFrom readIn readAt foundAt
 reply-differs e = let z : _≡_ {A = ℕ} 46 105 = ap (λ (s : List ℕ). getD s 0 0) e in omega arith

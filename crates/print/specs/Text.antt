@@ -3,13 +3,12 @@ use Prim.Native.Nat.{ℕ, zero, suc, _+_, _/_, _%_}
 use mathlib.Core.List.{List, [], _∷_, _++_}
 use mathlib.Core.Bool.{Bool, cond}
 use lib.Dec.{leb, ltb, eqb}
-use lib.IntN.{pos, natAbs}
-use lib.ListN.{length, getD, replicate}
+use lib.ListN.{length, drop, getD, replicate}
 use Rattle.sheet.specs.Sheet.{bytes, place, cellOf}
-use Rattle.sheet.specs.Reply.{Answer, settled}
+use Rattle.sheet.specs.Reply.{Answer, valueOf, settled}
+use Rattle.sheet.specs.Drawing.{paintAll}
 use Rattle.sheet.specs.declared.Shape.{Shape}
-use Rattle.record.specs.File.{readAll}
-use Rattle.drawing.specs.File.{recordsOf, paintAll, drawFileAnswer}
+use Rattle.drawing.specs.File.{figuresIn, drawFileAnswer}
 
 -- Every line ends with a newline.
 abbrev pub newline : List ℕ
@@ -33,12 +32,12 @@ abbrev pub character : ℕ → ℕ
 character byte = cond (eqb byte 0) 46 35
 
 -- the character of cell (x, y) on a sheet of bytes s
-unfoldable pub cell : List ℕ → ℕ → ℕ → List ℕ
-cell s y x = character (getD s (place sheet (cellOf x y)) 0) ∷ []
+unfoldable pub characterAt : List ℕ → ℕ → ℕ → List ℕ
+characterAt s y x = character (getD s (place sheet (cellOf x y)) 0) ∷ []
 
 -- a line of 16 characters, x = 0 leftmost
 unfoldable pub line : List ℕ → ℕ → List ℕ
-line s y = inTurn 16 (cell s y) ++ newline
+line s y = inTurn 16 (characterAt s y) ++ newline
 
 -- 8 lines, y = 0 first
 unfoldable pub picture : List ℕ → List ℕ
@@ -62,19 +61,15 @@ refusal number offset =
 abbrev pub tooLong : List ℕ
 tooLong = (105 ∷ 110 ∷ 112 ∷ 117 ∷ 116 ∷ 32 ∷ 116 ∷ 111 ∷ 111 ∷ 32 ∷ 108 ∷ 111 ∷ 110 ∷ 103 ∷ []) ++ newline
 
--- the offset of a file's refusal
-abbrev pub offsetOf : Answer → ℕ
-offsetOf a = natAbs (getD (a .values) 0 (pos 0))
-
--- the picture of what was drawn, or the line of the refusal
-abbrev pub told : Answer → List ℕ → List ℕ
-told a drawn = settled a (picture drawn) (refusal (a .number) (offsetOf a))
+-- the picture of what was drawn, or the line of the refusal with its offset
+abbrev pub printed : Answer → List ℕ → List ℕ
+printed a drawn = settled a (picture drawn) (refusal (a .number) (valueOf a))
 
 -- A file of at most 4,096 bytes is drawn on the sheet of zeros; a longer one is too long.
 unfoldable pub textOf : List ℕ → List ℕ
 textOf file =
     cond (leb (length file) 4096)
-    (told (drawFileAnswer sheet (bytes sheet) file) (paintAll sheet (recordsOf (readAll file)) zeros))
+    (printed (drawFileAnswer sheet file (bytes sheet)) (paintAll sheet (figuresIn file) zeros))
     tooLong
 
 -- `input cannot be read`, of which document 01 does not speak
@@ -85,3 +80,7 @@ unreadable =
 -- Of an input that cannot be read to its end nothing is drawn.
 unfoldable pub replyOf : Bool → List ℕ → List ℕ
 replyOf whole file = cond whole (textOf file) unreadable
+
+-- a text written over the beginning of lent bytes
+abbrev pub writtenOver : List ℕ → List ℕ → List ℕ
+writtenOver text before = text ++ drop (length text) before

@@ -1,11 +1,9 @@
 // The text that is printed for the bytes of the input.
 ghost use Prim.Native.Nat.{_+_, _*_, _≤_, _<_};
 ghost use mathlib.Core.Path.{_≡_};
-ghost use mathlib.Core.List.{_++_};
-ghost use lib.ListN.{length, drop};
+ghost use lib.ListN.{length};
 ghost use lib.Seq.{sets};
-ghost use Rattle.print.specs.Text.{character, line, picture, decimal, refusal, textOf, unreadable, replyOf};
-use drawing::Filed;
+ghost use Rattle.print.specs.Text.{character, line, picture, decimal, refusal, textOf, unreadable, replyOf, writtenOver};
 use sheet::Shape;
 
 // Writes a part at a place, and answers the place after it.
@@ -95,7 +93,7 @@ fn put_picture(out: &mut [u8], sheet: &[u8])
 // Writes the whole text for the bytes of the input, and answers its length.
 pub fn text(file: &[u8], out: &mut [u8; 136]) -> usize
     ensures { λ r. ⌜ r ≡ length (textOf (now (file .entry))) ⌝ }
-    ensures { λ r. ⌜ now (out .exit) ≡ textOf (now (file .entry)) ++ drop (length (textOf (now (file .entry)))) (now (out .entry)) ⌝ }
+    ensures { λ r. ⌜ now (out .exit) ≡ writtenOver (textOf (now (file .entry))) (now (out .entry)) ⌝ }
 {
     if 4096 < file.len() {
         return put(out, 0, b"input too long\n");
@@ -106,19 +104,17 @@ pub fn text(file: &[u8], out: &mut [u8; 136]) -> usize
         height: 8,
     };
     let reply = drawing::draw_file(&mut sheet, shape, file);
-    match reply {
-        Filed::Done(_) => {
-            put_picture(out, &sheet);
-            136
-        }
-        Filed::Refused(refusal, offset) => put_refusal(out, refusal.number(), offset),
+    if !reply.is_done() {
+        return put_refusal(out, reply.number(), reply.value());
     }
+    put_picture(out, &sheet);
+    136
 }
 
 // Writes the reply to what was read, the whole input or what came before a read failed, and answers its length.
 pub fn reply(whole: bool, file: &[u8], out: &mut [u8; 136]) -> usize
     ensures { λ r. ⌜ r ≡ length (replyOf whole (now (file .entry))) ⌝ }
-    ensures { λ r. ⌜ now (out .exit) ≡ replyOf whole (now (file .entry)) ++ drop (length (replyOf whole (now (file .entry)))) (now (out .entry)) ⌝ }
+    ensures { λ r. ⌜ now (out .exit) ≡ writtenOver (replyOf whole (now (file .entry))) (now (out .entry)) ⌝ }
 {
     if whole {
         text(file, out)

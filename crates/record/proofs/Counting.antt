@@ -5,9 +5,9 @@ use mathlib.Core.List.{List, [], _∷_}
 use native.Mathlib.Omega.{arith}
 use lib.IntN.{pos}
 use lib.ListN.{length}
-use Rattle.sheet.specs.Reply.{Answer, done}
-use Rattle.record.specs.Reading.{readAt, refuseAt}
-use Rattle.record.specs.File.{Contents, holds, refuses, also, readFrom, readAll, contentsAnswer, fileAnswer, toldChecked}
+use Rattle.sheet.specs.Reply.{Answer, done, refuseAt, told}
+use Rattle.record.specs.Reading.{readAt}
+use Rattle.record.specs.File.{Contents, holds, refuses, also, readFrom, readAll, contentsAnswer, fileAnswer}
 use Rattle.record.specs.Inner.{closedBy}
 use Rattle.record.specs.declared.types.Record.{Record}
 use Rattle.record.specs.declared.types.Read.{Read}
@@ -48,7 +48,7 @@ module _ (s : List ℕ) (count at : ℕ) (h : Counting s count at) where
       }
 
   -- the end and a refusal close the reading; a record does not
-  pub closes : (q : Read) → q ≡ readAt s at → NoRecord q → toldChecked (closedBy q count) ≡ fileAnswer s
+  pub closes : (q : Read) → q ≡ readAt s at → NoRecord q → told (closedBy q count) ≡ fileAnswer s
   closes (read.Record r) e t = absurd (never r t)
   closes read.End e t =
       let n : count ≡ count + 0 = omega arith in

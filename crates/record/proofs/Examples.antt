@@ -5,11 +5,11 @@ use mathlib.Core.List.{List, [], _∷_, map}
 use native.Mathlib.Omega.{arith}
 use lib.IntN.{pos, negsuc}
 use lib.ListN.{length, length-take, length-drop}
-use Rattle.sheet.specs.Reply.{Answer, done}
+use Rattle.sheet.specs.Reply.{Answer, done, refuseAt}
 use Rattle.sheet.specs.Sheet as sheet
 use Rattle.sheet.specs.declared.Refusal.the-variants.{Coordinate, Pieces, Short, Kind, Length}
 use Rattle.record.specs.Layout.{Field, Row, wordAt, width, signed, lineRow, circleRow, ellipseRow, curveRow, table}
-use Rattle.record.specs.Reading.{refuseAt, valuesFrom, limitedFrom, rowFound, kindFound, payloadAt, foundAt, readAt, readAnswer}
+use Rattle.record.specs.Reading.{valuesFrom, limitedFrom, rowFound, kindFound, payloadAt, foundAt, readAt, readAnswer}
 use Rattle.record.specs.File.{readIn, readFrom, readAll, fileAnswer}
 
 pub record Example : Type 0 where

@@ -1,4 +1,4 @@
--- What each kind's payload is read as, test by test in its decoder's order.
+-- What each kind's payload is read as, test by test in its decoder's order, by the fields that the code read.
 use Prim.Native.Nat.{ℕ, _+_}
 use mathlib.Core.Path.{_≡_, refl}
 use mathlib.Core.List.{List}
@@ -6,14 +6,16 @@ use mathlib.Core.Bool.{Bool, true, false, cond, _&&_}
 use native.Mathlib.Omega.{arith}
 use borrow.Author.Tests.{eq-eqb, ne-eqb}
 use lib.ListN.{length, getD}
-use Rattle.sheet.specs.Sheet.{inLimits, radius, semiAxis, split}
-use Rattle.sheet.specs.declared.Cell.{Cell}
+use Rattle.sheet.specs.Sheet.{inLimits}
 use Rattle.sheet.specs.declared.Refusal.{Refusal}
 use Rattle.sheet.specs.declared.Refusal.the-variants.{Coordinate, Radius, Pieces, Length}
-use Rattle.record.specs.Layout.{Row, wordAt, lineRow, circleRow, ellipseRow, curveRow}
-use Rattle.record.specs.Inner.{cellAt}
+use Rattle.record.specs.Layout.{Row, lineRow, circleRow, ellipseRow, curveRow}
+use Rattle.record.specs.Inner.{cellField, numberField}
+use Rattle.record.specs.declared.CellField.{CellField}
+use Rattle.record.specs.declared.NumberField.{NumberField}
+use Rattle.record.specs.declared.Number.the-variants as number
 use Rattle.record.specs.Reading.{Found, unlessAt, valuesFrom, limitedFrom, rowFound, readOf}
-use Rattle.record.specs.declared.types.Figure.the-variants.{Line, Circle, Ellipse, Curve}
+use Rattle.sheet.specs.declared.Figure.the-variants.{Line, Circle, Ellipse, Curve}
 use Rattle.record.specs.declared.types.Read.the-variants.{Record, Refused}
 
 -- two tests in turn are both at once
@@ -32,41 +34,39 @@ module _ (p : List ℕ) (at next : ℕ) where
   unfolding rowFound
   other-length row h = simp (ne-eqb (2 + length p) (row .length) h)
 
-  pub line-found : (a b : Cell) → length p ≡ 9 → a ≡ cellAt p 1 → b ≡ cellAt p 5
+  pub line-found : (a b : CellField) → length p ≡ 9 → a ≡ cellField p 1 → b ≡ cellField p 5
       → readOf (rowFound lineRow p at next) ≡
-      cond (inLimits a)
-      (cond (inLimits b)
-      (Record (record { offset = at; next = next; ink = getD p 0 0; figure = Line a b }))
-      (Refused Coordinate at)) (Refused Coordinate at)
+      cond (a .sound && b .sound)
+      (Record (record { offset = at; next = next; ink = getD p 0 0; figure = Line (a .cell) (b .cell) }))
+      (Refused Coordinate at)
   unfolding rowFound limitedFrom valuesFrom lineRow inLimits
   line-found a b h e f = rw (e, f) (simp (eq-eqb (2 + length p) 11 (omega arith), both, read-unless))
 
-  pub circle-found : (centre : Cell) (r : ℕ) → length p ≡ 7 → centre ≡ cellAt p 1 → r ≡ wordAt p 5
+  pub circle-found : (centre : CellField) (r : NumberField) → length p ≡ 7 → centre ≡ cellField p 1 → r ≡ numberField p 5 number.Radius
       → readOf (rowFound circleRow p at next) ≡
-      cond (inLimits centre)
-      (cond (radius r)
-      (Record (record { offset = at; next = next; ink = getD p 0 0; figure = Circle centre r }))
+      cond (centre .sound)
+      (cond (r .sound)
+      (Record (record { offset = at; next = next; ink = getD p 0 0; figure = Circle (centre .cell) (r .number) }))
       (Refused Radius at)) (Refused Coordinate at)
   unfolding rowFound limitedFrom valuesFrom circleRow inLimits
   circle-found centre r h e f = rw (e, f) (simp (eq-eqb (2 + length p) 9 (omega arith), both, read-unless))
 
-  pub ellipse-found : (centre : Cell) (a b : ℕ) → length p ≡ 9 → centre ≡ cellAt p 1 → a ≡ wordAt p 5 → b ≡ wordAt p 7
+  pub ellipse-found : (centre : CellField) (a b : NumberField) → length p ≡ 9
+      → centre ≡ cellField p 1 → a ≡ numberField p 5 number.SemiAxis → b ≡ numberField p 7 number.SemiAxis
       → readOf (rowFound ellipseRow p at next) ≡
-      cond (inLimits centre)
-      (cond (semiAxis a)
-      (cond (semiAxis b)
-      (Record (record { offset = at; next = next; ink = getD p 0 0; figure = Ellipse centre a b }))
-      (Refused Radius at)) (Refused Radius at)) (Refused Coordinate at)
+      cond (centre .sound)
+      (cond (a .sound && b .sound)
+      (Record (record { offset = at; next = next; ink = getD p 0 0; figure = Ellipse (centre .cell) (a .number) (b .number) }))
+      (Refused Radius at)) (Refused Coordinate at)
   unfolding rowFound limitedFrom valuesFrom ellipseRow inLimits
   ellipse-found centre a b h e f g = rw (e, f, g) (simp (eq-eqb (2 + length p) 11 (omega arith), both, read-unless))
 
-  pub curve-found : (p0 p1 p2 : Cell) (s : ℕ) → length p ≡ 14 → p0 ≡ cellAt p 1 → p1 ≡ cellAt p 5 → p2 ≡ cellAt p 9 → s ≡ getD p 13 0
+  pub curve-found : (p0 p1 p2 : CellField) (s : NumberField) → length p ≡ 14
+      → p0 ≡ cellField p 1 → p1 ≡ cellField p 5 → p2 ≡ cellField p 9 → s ≡ numberField p 13 number.Split
       → readOf (rowFound curveRow p at next) ≡
-      cond (inLimits p0)
-      (cond (inLimits p1)
-      (cond (inLimits p2)
-      (cond (split s)
-      (Record (record { offset = at; next = next; ink = getD p 0 0; figure = Curve p0 p1 p2 s }))
-      (Refused Pieces at)) (Refused Coordinate at)) (Refused Coordinate at)) (Refused Coordinate at)
+      cond (p0 .sound && (p1 .sound && p2 .sound))
+      (cond (s .sound)
+      (Record (record { offset = at; next = next; ink = getD p 0 0; figure = Curve (p0 .cell) (p1 .cell) (p2 .cell) (s .number) }))
+      (Refused Pieces at)) (Refused Coordinate at)
   unfolding rowFound limitedFrom valuesFrom curveRow inLimits
   curve-found p0 p1 p2 s h e f g k = rw (e, f, g, k) (simp (eq-eqb (2 + length p) 16 (omega arith), both, read-unless))

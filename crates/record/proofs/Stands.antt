@@ -2,25 +2,14 @@
 use Prim.Native.Nat.{ℕ, _+_, _≤_}
 use mathlib.Core.Path.{_≡_, refl, sym, subst}
 use mathlib.Core.List.{List}
-use mathlib.Core.Bool.{true}
-use lib.IntN.{ℤ}
 use lib.ListN.{length}
-use Rattle.sheet.specs.Sheet.{coordinate, inLimits, radius, semiAxis, split}
+use Rattle.sheet.proofs.Figures.{Sound, cell-in}
 use Rattle.record.specs.Layout.{Row, wordAt, lineRow, circleRow, ellipseRow, curveRow}
 use Rattle.record.specs.Reading.{Found, valuesFrom, payloadAt, readOf, readAt}
-use Rattle.record.specs.declared.types.Figure.{Figure}
-use Rattle.record.specs.declared.types.Figure.the-variants.{Line, Circle, Ellipse, Curve}
 use Rattle.record.specs.declared.types.Record.{Record}
 use Rattle.record.specs.declared.types.Read.{Read}
 use Rattle.record.specs.declared.types.Read.the-variants as read
 use Rattle.record.proofs.Found.{LimitedFrom, Made, kind-has, found-has}
-
--- no drawing refuses the figure for its fields
-abbrev pub Sound : Figure → Type 0
-Sound (Line a b) = (inLimits a ≡ true) × (inLimits b ≡ true)
-Sound (Circle c r) = (inLimits c ≡ true) × (radius r ≡ true)
-Sound (Ellipse c a b) = (inLimits c ≡ true) × (semiAxis a ≡ true) × (semiAxis b ≡ true)
-Sound (Curve p q r s) = (inLimits p ≡ true) × (inLimits q ≡ true) × (inLimits r ≡ true) × (split s ≡ true)
 
 -- the record stands at the offset of the file
 pub record Stands (s : List ℕ) (at : ℕ) (r : Record) : Type 0 where
@@ -29,10 +18,6 @@ pub record Stands (s : List ℕ) (at : ℕ) (r : Record) : Type 0 where
   pub inside : r .next ≤ length s
   pub sound : Sound (r .figure)
 
-cell : (x y : ℤ) → coordinate x ≡ true → coordinate y ≡ true → inLimits (record { x = x; y = y }) ≡ true
-unfolding inLimits
-cell x y a b = simp (a, b)
-
 -- the figure of a row, where the fields of its payload are within their limits
 abbrev RowSound : Row → List ℕ → Type 0
 RowSound row p = LimitedFrom (row .payload) p 0 → Sound (row .figure (valuesFrom (row .payload) p 0))
@@ -40,24 +25,24 @@ RowSound row p = LimitedFrom (row .payload) p 0 → Sound (row .figure (valuesFr
 module _ (p : List ℕ) where
   line-sound : RowSound lineRow p
   unfolding LimitedFrom valuesFrom lineRow
-  line-sound l = let b = l .1 .1 .1 in (cell _ _ (l .1 .0) (l .1 .1 .0), cell _ _ (b .0) (b .1 .0))
+  line-sound l = let b = l .1 .1 .1 in (cell-in _ _ (l .1 .0) (l .1 .1 .0), cell-in _ _ (b .0) (b .1 .0))
 
   circle-sound : RowSound circleRow p
   unfolding LimitedFrom valuesFrom circleRow
-  circle-sound l = (cell _ _ (l .1 .0) (l .1 .1 .0), l .1 .1 .1 .0)
+  circle-sound l = (cell-in _ _ (l .1 .0) (l .1 .1 .0), l .1 .1 .1 .0)
 
   ellipse-sound : RowSound ellipseRow p
   unfolding LimitedFrom valuesFrom ellipseRow
   ellipse-sound l =
       let a = l .1 .1 .1 in
-      (cell _ _ (l .1 .0) (l .1 .1 .0), a .0, a .1 .0)
+      (cell-in _ _ (l .1 .0) (l .1 .1 .0), a .0, a .1 .0)
 
   curve-sound : RowSound curveRow p
   unfolding LimitedFrom valuesFrom curveRow
   curve-sound l =
       let p1 = l .1 .1 .1 in
       let p2 = p1 .1 .1 in
-      (cell _ _ (l .1 .0) (l .1 .1 .0), cell _ _ (p1 .0) (p1 .1 .0), cell _ _ (p2 .0) (p2 .1 .0), p2 .1 .1 .0)
+      (cell-in _ _ (l .1 .0) (l .1 .1 .0), cell-in _ _ (p1 .0) (p1 .1 .0), cell-in _ _ (p2 .0) (p2 .1 .0), p2 .1 .1 .0)
 
 module _ (s : List ℕ) (at : ℕ) where
   abbrev IfRecord : Read → Type 0

@@ -3,14 +3,12 @@ use Prim.Native.Nat.{ℕ, zero, suc, _-_}
 use mathlib.Core.List.{List, [], _∷_}
 use lib.IntN.{pos}
 use lib.ListN.{length}
-use Rattle.sheet.specs.Reply.{Answer, done}
+use Rattle.sheet.specs.Reply.{Answer, done, refuseAt}
 use Rattle.sheet.specs.declared.Refusal.{Refusal}
-use Rattle.record.specs.Reading.{readAt, refuseAt}
+use Rattle.record.specs.Reading.{readAt}
 use Rattle.record.specs.declared.types.Record.{Record}
 use Rattle.record.specs.declared.types.Read.{Read}
 use Rattle.record.specs.declared.types.Read.the-variants as read
-use Rattle.record.specs.declared.types.Checked.{Checked}
-use Rattle.record.specs.declared.types.Checked.the-variants as checked
 
 -- The records of a file in order, or its first refusal with the offset.
 pub data Contents : Type 0 where
@@ -48,8 +46,3 @@ contentsAnswer (refuses q at) = refuseAt q at
 
 unfoldable pub fileAnswer : List ℕ → Answer
 fileAnswer s = contentsAnswer (readAll s)
-
--- the code's answer in the paper's words
-abbrev pub toldChecked : Checked → Answer
-toldChecked (checked.Done n) = done (pos n ∷ [])
-toldChecked (checked.Refused q at) = refuseAt q at

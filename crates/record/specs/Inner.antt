@@ -1,19 +1,37 @@
 -- What only the inner functions promise each other.
 use Prim.Native.Nat.{ℕ, _+_}
 use mathlib.Core.List.{List}
-use Rattle.sheet.specs.declared.Cell.{Cell}
-use Rattle.record.specs.Layout.{coordinate, valueAt}
+use lib.ListN.{getD}
+use Rattle.sheet.specs.Sheet as sheet
+use Rattle.sheet.specs.declared.Reply.{Reply}
+use Rattle.sheet.specs.declared.Reply.the-variants as reply
+use Rattle.record.specs.Layout.{Field, coordinate, radius, axis, pieces, wordAt, valueAt}
+use Rattle.record.specs.declared.CellField.{CellField}
+use Rattle.record.specs.declared.NumberField.{NumberField}
+use Rattle.record.specs.declared.Number.{Number}
+use Rattle.record.specs.declared.Number.the-variants.{Radius, SemiAxis, Split}
 use Rattle.record.specs.declared.types.Read.{Read}
 use Rattle.record.specs.declared.types.Read.the-variants as read
-use Rattle.record.specs.declared.types.Checked.{Checked}
-use Rattle.record.specs.declared.types.Checked.the-variants as checked
 
--- a cell: x, then y
-abbrev pub cellAt : List ℕ → ℕ → Cell
-cellAt s k = record { x = valueAt coordinate s k; y = valueAt coordinate s (k + 2) }
+-- the cell at a place of a payload: x, then y
+abbrev pub cellField : List ℕ → ℕ → CellField
+cellField p k =
+    let c = sheet.cell (valueAt coordinate p k) (valueAt coordinate p (k + 2)) in
+    record { cell = c; sound = sheet.inLimits c }
+
+-- the field of a kind of number, and the number at a place
+abbrev pub fieldOf : Number → Field
+fieldOf Radius = radius
+fieldOf SemiAxis = axis
+fieldOf Split = pieces
+
+abbrev pub numberField : List ℕ → ℕ → Number → NumberField
+numberField p k Radius = record { number = wordAt p k; sound = sheet.radius (wordAt p k) }
+numberField p k SemiAxis = record { number = wordAt p k; sound = sheet.semiAxis (wordAt p k) }
+numberField p k Split = record { number = getD p k 0; sound = sheet.split (getD p k 0) }
 
 -- a read that is no record, after n records
-abbrev pub closedBy : Read → ℕ → Checked
-closedBy (read.Record r) n = checked.Done n
-closedBy read.End n = checked.Done n
-closedBy (read.Refused q at) n = checked.Refused q at
+abbrev pub closedBy : Read → ℕ → Reply
+closedBy (read.Record r) n = reply.Counted n
+closedBy read.End n = reply.Counted n
+closedBy (read.Refused q at) n = reply.RefusedAt q at

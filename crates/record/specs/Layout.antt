@@ -3,11 +3,11 @@ use Prim.Native.Nat.{ℕ, _+_, _*_}
 use mathlib.Core.List.{List, [], _∷_}
 use mathlib.Core.Bool.{cond}
 use lib.Dec.{ltb}
-use lib.IntN.{ℤ, pos, natAbs, _-ℤ_}
+use lib.IntN.{ℤ, pos, _-ℤ_}
 use lib.ListN.{getD}
-use Rattle.sheet.specs.declared.Cell.{Cell}
-use Rattle.record.specs.declared.types.Figure.{Figure}
-use Rattle.record.specs.declared.types.Figure.the-variants.{Line, Circle, Ellipse, Curve}
+use Rattle.sheet.specs.Figure.{cellIn, numberIn}
+use Rattle.sheet.specs.declared.Figure.{Figure}
+use Rattle.sheet.specs.declared.Figure.the-variants.{Line, Circle, Ellipse, Curve}
 
 -- 2 bytes, little-endian
 abbrev pub wordAt : List ℕ → ℕ → ℕ
@@ -39,13 +39,6 @@ valueAt radius s k = pos (wordAt s k)
 valueAt axis s k = pos (wordAt s k)
 valueAt pieces s k = pos (getD s k 0)
 
--- the cell of a value and the next, and a value that is no coordinate
-abbrev pub cellIn : List ℤ → ℕ → Cell
-cellIn v n = record { x = getD v n (pos 0); y = getD v (n + 1) (pos 0) }
-
-abbrev pub numberIn : List ℤ → ℕ → ℕ
-numberIn v n = natAbs (getD v n (pos 0))
-
 -- A row of the table: kind, length, payload, and the figure that the payload's values make.
 pub record Row : Type 0 where
   pub kind : ℕ
@@ -53,41 +46,22 @@ pub record Row : Type 0 where
   pub payload : List Field
   pub figure : List ℤ → Figure
 
+abbrev rowOf : ℕ → ℕ → List Field → (List ℤ → Figure) → Row
+rowOf kind length payload figure = record { kind = kind; length = length; payload = payload; figure = figure }
+
 unfoldable pub lineRow : Row
-lineRow =
-    record {
-      kind = 1;
-      length = 11;
-      payload = ink ∷ coordinate ∷ coordinate ∷ coordinate ∷ coordinate ∷ [];
-      figure = λ (v : List ℤ). Line (cellIn v 1) (cellIn v 3);
-    }
+lineRow = rowOf 1 11 (ink ∷ coordinate ∷ coordinate ∷ coordinate ∷ coordinate ∷ []) (λ v. Line (cellIn v 1) (cellIn v 3))
 
 unfoldable pub circleRow : Row
-circleRow =
-    record {
-      kind = 2;
-      length = 9;
-      payload = ink ∷ coordinate ∷ coordinate ∷ radius ∷ [];
-      figure = λ (v : List ℤ). Circle (cellIn v 1) (numberIn v 3);
-    }
+circleRow = rowOf 2 9 (ink ∷ coordinate ∷ coordinate ∷ radius ∷ []) (λ v. Circle (cellIn v 1) (numberIn v 3))
 
 unfoldable pub ellipseRow : Row
-ellipseRow =
-    record {
-      kind = 3;
-      length = 11;
-      payload = ink ∷ coordinate ∷ coordinate ∷ axis ∷ axis ∷ [];
-      figure = λ (v : List ℤ). Ellipse (cellIn v 1) (numberIn v 3) (numberIn v 4);
-    }
+ellipseRow = rowOf 3 11 (ink ∷ coordinate ∷ coordinate ∷ axis ∷ axis ∷ []) (λ v. Ellipse (cellIn v 1) (numberIn v 3) (numberIn v 4))
 
 unfoldable pub curveRow : Row
 curveRow =
-    record {
-      kind = 4;
-      length = 16;
-      payload = ink ∷ coordinate ∷ coordinate ∷ coordinate ∷ coordinate ∷ coordinate ∷ coordinate ∷ pieces ∷ [];
-      figure = λ (v : List ℤ). Curve (cellIn v 1) (cellIn v 3) (cellIn v 5) (numberIn v 7);
-    }
+    rowOf 4 16 (ink ∷ coordinate ∷ coordinate ∷ coordinate ∷ coordinate ∷ coordinate ∷ coordinate ∷ pieces ∷ [])
+    (λ v. Curve (cellIn v 1) (cellIn v 3) (cellIn v 5) (numberIn v 7))
 
 -- the table
 unfoldable pub table : List Row

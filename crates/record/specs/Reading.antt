@@ -6,13 +6,11 @@ use lib.Dec.{leb, eqb}
 use lib.IntN.{ℤ, pos, natAbs}
 use lib.ListN.{length, take, drop}
 use Rattle.sheet.specs.Sheet as sheet
-use Rattle.sheet.specs.Reply.{Answer, number, done}
-use Rattle.sheet.specs.declared.Cell.{Cell}
+use Rattle.sheet.specs.Reply.{Answer, done, refuseAt}
+use Rattle.sheet.specs.Figure.{kindOf, valuesOf, numberIn}
 use Rattle.sheet.specs.declared.Refusal.{Refusal}
 use Rattle.sheet.specs.declared.Refusal.the-variants.{Coordinate, Radius, Pieces, Short, Kind, Length}
-use Rattle.record.specs.Layout.{Field, ink, coordinate, radius, axis, pieces, Row, wordAt, width, valueAt, numberIn, table}
-use Rattle.record.specs.declared.types.Figure.{Figure}
-use Rattle.record.specs.declared.types.Figure.the-variants.{Line, Circle, Ellipse, Curve}
+use Rattle.record.specs.Layout.{Field, ink, coordinate, radius, axis, pieces, Row, wordAt, width, valueAt, table}
 use Rattle.record.specs.declared.types.Read.{Read}
 use Rattle.record.specs.declared.types.Read.the-variants.{Record, End, Refused}
 
@@ -68,10 +66,6 @@ foundAt s at =
     (unlessAt (leb 2 (wordAt s at)) Length at
     (kindFound table (wordAt s (at + 2)) (payloadAt s at) at (at + 2 + wordAt s at)))))
 
--- a refusal's number with its offset
-abbrev pub refuseAt : Refusal → ℕ → Answer
-refuseAt r at = record { number = number r; values = pos at ∷ [] }
-
 -- the paper's answer: 0 with a record's offset, the offset after it, its kind and its payload's values; 0 alone at the end
 abbrev pub answerOf : Found → Answer
 answerOf (found at next row v) = done (pos at ∷ pos next ∷ pos (row .kind) ∷ v)
@@ -90,22 +84,7 @@ readOf (refused r at) = Refused r at
 unfoldable pub readAt : List ℕ → ℕ → Read
 readAt s at = readOf (foundAt s at)
 
--- the code's answer in the paper's words: a figure's kind and values, and each case of a read
-abbrev pub kindOf : Figure → ℕ
-kindOf (Line a b) = 1
-kindOf (Circle c r) = 2
-kindOf (Ellipse c a b) = 3
-kindOf (Curve p q r s) = 4
-
-abbrev pub cellValues : Cell → List ℤ → List ℤ
-cellValues c v = c .x ∷ c .y ∷ v
-
-abbrev pub valuesOf : Figure → List ℤ
-valuesOf (Line a b) = cellValues a (cellValues b [])
-valuesOf (Circle c r) = cellValues c (pos r ∷ [])
-valuesOf (Ellipse c a b) = cellValues c (pos a ∷ pos b ∷ [])
-valuesOf (Curve p q r s) = cellValues p (cellValues q (cellValues r (pos s ∷ [])))
-
+-- the code's answer in the paper's words
 abbrev pub toldRead : Read → Answer
 toldRead (Record r) = done (pos (r .offset) ∷ pos (r .next) ∷ pos (kindOf (r .figure)) ∷ pos (r .ink) ∷ valuesOf (r .figure))
 toldRead End = done []

@@ -2,20 +2,19 @@
 mod types;
 
 use sheet::Cell;
+use sheet::Figure;
 use sheet::Refusal;
-pub use types::Checked;
-pub use types::Figure;
+use sheet::Reply;
 pub use types::Read;
 pub use types::Record;
 ghost use mathlib.Core.Path.{_≡_};
-ghost use Prim.Native.Nat.{_+_, _*_, _<_};
+ghost use Prim.Native.Nat.{_+_, _*_, _≤_, _<_};
 ghost use lib.ListN.{length};
-ghost use Rattle.sheet.specs.Sheet.{semiAxis};
-ghost use Rattle.record.specs.Layout.{wordAt, signed, lineRow, circleRow, ellipseRow, curveRow, table};
-ghost use Rattle.record.specs.Inner.{cellAt};
+ghost use Rattle.sheet.specs.Reply.{told};
+ghost use Rattle.record.specs.Layout.{wordAt, signed, width, lineRow, circleRow, ellipseRow, curveRow, table};
 ghost use Rattle.record.specs.Reading.{rowFound, kindFound, readOf, readAt, readAnswer, toldRead};
-ghost use Rattle.record.specs.File.{fileAnswer, toldChecked};
-ghost use Rattle.record.specs.Inner.{closedBy};
+ghost use Rattle.record.specs.File.{fileAnswer};
+ghost use Rattle.record.specs.Inner.{fieldOf, cellField, numberField, closedBy};
 
 // A byte, widened.
 fn wide(x: u8) -> u32
@@ -51,25 +50,67 @@ fn word_at(bytes: &[u8], k: usize) -> u32
     word(bytes[k], bytes[k + 1])
 }
 
-// The cell whose x stands at k, with y after it.
-fn cell_at(bytes: &[u8], k: usize) -> Cell
-    requires { ⌜ k + 3 < length (now bytes) ⌝ }
-    ensures { λ r. ⌜ r ≡ cellAt (now (bytes .entry)) k ⌝ }
+// A cell of a payload, and whether it is within the limits.
+struct CellField {
+    cell: Cell,
+    sound: bool,
+}
+
+// A number of a payload, and whether it is within the limits of its kind.
+struct NumberField {
+    number: u32,
+    sound: bool,
+}
+
+enum Number {
+    Radius,
+    SemiAxis,
+    Split,
+}
+
+// The cell whose x stands at a place of the payload, with y after it.
+fn cell_at(payload: &[u8], place: usize) -> CellField
+    requires { ⌜ place + 3 < length (now payload) ⌝ }
+    ensures { λ r. ⌜ r ≡ cellField (now (payload .entry)) place ⌝ }
 {
-    Cell {
-        x: signed(word_at(bytes, k)),
-        y: signed(word_at(bytes, k + 2)),
+    let cell = Cell {
+        x: signed(word_at(payload, place)),
+        y: signed(word_at(payload, place + 2)),
+    };
+    CellField {
+        cell,
+        sound: sheet::in_limits(cell),
     }
 }
 
-// Whether a number is within the limits of a semi-axis.
-fn is_axis(n: u32) -> bool
-    ensures { λ r. ⌜ r ≡ semiAxis n ⌝ }
+// The number that stands at a place of the payload.
+fn number_at(payload: &[u8], place: usize, kind: Number) -> NumberField
+    requires { ⌜ place + width (fieldOf kind) ≤ length (now payload) ⌝ }
+    ensures { λ r. ⌜ r ≡ numberField (now (payload .entry)) place kind ⌝ }
 {
-    if n < 1 {
-        return false;
+    match kind {
+        Number::Radius => {
+            let number = word_at(payload, place);
+            NumberField {
+                number,
+                sound: sheet::is_radius(number),
+            }
+        }
+        Number::SemiAxis => {
+            let number = word_at(payload, place);
+            NumberField {
+                number,
+                sound: sheet::is_semi_axis(number),
+            }
+        }
+        Number::Split => {
+            let number = wide(payload[place]);
+            NumberField {
+                number,
+                sound: sheet::is_split(number),
+            }
+        }
     }
-    n <= 16383
 }
 
 // Kind 1: ink, x0, y0, x1, y1.
@@ -80,19 +121,17 @@ fn line(payload: &[u8], at: usize, next: usize) -> Read
         return Read::Refused(Refusal::Length, at);
     }
     let a = cell_at(payload, 1);
-    if !sheet::in_limits(a) {
-        return Read::Refused(Refusal::Coordinate, at);
-    }
     let b = cell_at(payload, 5);
-    if !sheet::in_limits(b) {
+    if !(a.sound & b.sound) {
         return Read::Refused(Refusal::Coordinate, at);
     }
-    let ink = payload[0];
+    let from = a.cell;
+    let to = b.cell;
     Read::Record(Record {
         offset: at,
         next,
-        ink,
-        figure: Figure::Line(a, b),
+        ink: payload[0],
+        figure: Figure::Line(from, to),
     })
 }
 
@@ -103,20 +142,20 @@ fn circle(payload: &[u8], at: usize, next: usize) -> Read
     if payload.len() != 7 {
         return Read::Refused(Refusal::Length, at);
     }
-    let centre = cell_at(payload, 1);
-    if !sheet::in_limits(centre) {
+    let c = cell_at(payload, 1);
+    if !c.sound {
         return Read::Refused(Refusal::Coordinate, at);
     }
-    let r = word_at(payload, 5);
-    if 16383 < r {
+    let r = number_at(payload, 5, Number::Radius);
+    if !r.sound {
         return Read::Refused(Refusal::Radius, at);
     }
-    let ink = payload[0];
+    let centre = c.cell;
     Read::Record(Record {
         offset: at,
         next,
-        ink,
-        figure: Figure::Circle(centre, r),
+        ink: payload[0],
+        figure: Figure::Circle(centre, r.number),
     })
 }
 
@@ -127,24 +166,21 @@ fn ellipse(payload: &[u8], at: usize, next: usize) -> Read
     if payload.len() != 9 {
         return Read::Refused(Refusal::Length, at);
     }
-    let centre = cell_at(payload, 1);
-    if !sheet::in_limits(centre) {
+    let c = cell_at(payload, 1);
+    if !c.sound {
         return Read::Refused(Refusal::Coordinate, at);
     }
-    let a = word_at(payload, 5);
-    if !is_axis(a) {
+    let a = number_at(payload, 5, Number::SemiAxis);
+    let b = number_at(payload, 7, Number::SemiAxis);
+    if !(a.sound & b.sound) {
         return Read::Refused(Refusal::Radius, at);
     }
-    let b = word_at(payload, 7);
-    if !is_axis(b) {
-        return Read::Refused(Refusal::Radius, at);
-    }
-    let ink = payload[0];
+    let centre = c.cell;
     Read::Record(Record {
         offset: at,
         next,
-        ink,
-        figure: Figure::Ellipse(centre, a, b),
+        ink: payload[0],
+        figure: Figure::Ellipse(centre, a.number, b.number),
     })
 }
 
@@ -155,28 +191,24 @@ fn curve(payload: &[u8], at: usize, next: usize) -> Read
     if payload.len() != 14 {
         return Read::Refused(Refusal::Length, at);
     }
-    let p0 = cell_at(payload, 1);
-    if !sheet::in_limits(p0) {
+    let a = cell_at(payload, 1);
+    let b = cell_at(payload, 5);
+    let c = cell_at(payload, 9);
+    if !(a.sound & (b.sound & c.sound)) {
         return Read::Refused(Refusal::Coordinate, at);
     }
-    let p1 = cell_at(payload, 5);
-    if !sheet::in_limits(p1) {
-        return Read::Refused(Refusal::Coordinate, at);
-    }
-    let p2 = cell_at(payload, 9);
-    if !sheet::in_limits(p2) {
-        return Read::Refused(Refusal::Coordinate, at);
-    }
-    let s = wide(payload[13]);
-    if 6 < s {
+    let s = number_at(payload, 13, Number::Split);
+    if !s.sound {
         return Read::Refused(Refusal::Pieces, at);
     }
-    let ink = payload[0];
+    let p0 = a.cell;
+    let p1 = b.cell;
+    let p2 = c.cell;
     Read::Record(Record {
         offset: at,
         next,
-        ink,
-        figure: Figure::Curve(p0, p1, p2, s),
+        ink: payload[0],
+        figure: Figure::Curve(p0, p1, p2, s.number),
     })
 }
 
@@ -218,19 +250,19 @@ pub fn read(file: &[u8], at: usize) -> Read
 }
 
 // What a read that is no record makes of the file, after this many records.
-fn closed(answer: Read, count: usize) -> Checked
+fn closed(answer: Read, count: usize) -> Reply
     ensures { λ r. ⌜ r ≡ closedBy answer count ⌝ }
 {
     match answer {
-        Read::Record(_) => Checked::Done(count),
-        Read::End => Checked::Done(count),
-        Read::Refused(refusal, offset) => Checked::Refused(refusal, offset),
+        Read::Record(_) => Reply::Counted(count),
+        Read::End => Reply::Counted(count),
+        Read::Refused(refusal, offset) => Reply::RefusedAt(refusal, offset),
     }
 }
 
 // Reads the file to its end: its number of records, or the first refusal with its offset.
-pub fn check(file: &[u8]) -> Checked
-    ensures { λ r. ⌜ toldChecked r ≡ fileAnswer (now (file .entry)) ⌝ }
+pub fn check(file: &[u8]) -> Reply
+    ensures { λ r. ⌜ told r ≡ fileAnswer (now (file .entry)) ⌝ }
 {
     let mut count: usize = 0;
     let mut at: usize = 0;

@@ -1,44 +1,31 @@
--- The answer and the sheet at each return of a ring's drawing.
+-- A ring that is drawn, and what its limits promise the inner functions.
 use Prim.Native.Nat.{ℕ, _≤_}
-use mathlib.Core.Path.{_≡_, refl, ap, _∙_}
+use mathlib.Core.Path.{_≡_, ap, _∙_}
 use mathlib.Core.List.{List, []}
-use mathlib.Core.Bool.{Bool, true, false, _&&_}
+use mathlib.Core.Bool.{Bool, true, _&&_}
 use lib.ListN.{length}
 use lib.Dec.{T, leb, leb→le}
 use Rattle.laws.proofs.Tests.{and-l, and-r, from-true}
 use Rattle.sheet.specs.Sheet.{fits, inLimits, paint, radius, semiAxis}
-use Rattle.sheet.specs.Reply.{done, refuse, settled}
+use Rattle.sheet.specs.Reply.{done}
+use Rattle.sheet.specs.Drawing.{only, Draws}
 use Rattle.sheet.specs.Inner.{movedCell, unmovedCell}
 use Rattle.sheet.specs.declared.Cell.{Cell}
 use Rattle.sheet.specs.declared.Shape.{Shape}
 use Rattle.sheet.specs.declared.Spot.{Spot}
-use Rattle.sheet.specs.declared.Refusal.the-variants.{Size, Coordinate, Radius}
+use Rattle.sheet.proofs.Draws.{draws}
 use Rattle.sheet.proofs.Limits.{lifted-cell}
 use Rattle.ring.specs.Ring.{around}
-use Rattle.ring.specs.Answer.{semiAxes, ringAnswer}
+use Rattle.ring.specs.Draw.{ringAnswer}
 use Rattle.ring.specs.Inner.{Centred}
 
-module _ (k : Shape) (ink : ℕ) (c : Cell) (limits : Bool) (rule : ℕ → ℕ → Bool) (s : List ℕ) where
-  pub ring-size : fits k (length s) ≡ false
-      → (refuse Size ≡ ringAnswer k (length s) c limits) × (s ≡ settled (ringAnswer k (length s) c limits) (paint k ink (around c rule) s) s)
-  unfolding ringAnswer
-  ring-size e = simp e (refl, refl)
-
-  pub ring-coordinate : fits k (length s) ≡ true → inLimits c ≡ false
-      → (refuse Coordinate ≡ ringAnswer k (length s) c limits) × (s ≡ settled (ringAnswer k (length s) c limits) (paint k ink (around c rule) s) s)
-  unfolding ringAnswer
-  ring-coordinate e f = simp (e, f) (refl, refl)
-
-  pub ring-radius : fits k (length s) ≡ true → inLimits c ≡ true → limits ≡ false
-      → (refuse Radius ≡ ringAnswer k (length s) c limits) × (s ≡ settled (ringAnswer k (length s) c limits) (paint k ink (around c rule) s) s)
-  unfolding ringAnswer
-  ring-radius e f g = simp (e, f, g) (refl, refl)
-
-  pub ring-done : (p : Spot) (t : List ℕ) → fits k (length s) ≡ true → inLimits c ≡ true → limits ≡ true → p ≡ movedCell c
-      → t ≡ paint k ink (around (unmovedCell p) rule) s
-      → (done [] ≡ ringAnswer k (length s) c limits) × (t ≡ settled (ringAnswer k (length s) c limits) (paint k ink (around c rule) s) s)
-  unfolding ringAnswer
-  ring-done p t e f g h q = simp (e, f, g) (refl, q ∙ ap (λ (d : Cell). paint k ink (around d rule) s) (lifted-cell c p f h .stands))
+-- a ring about a centre within the limits, drawn on a sheet that fits
+pub ring-done : (k : Shape) (ink : ℕ) (c : Cell) (limits : Bool) (rule : ℕ → ℕ → Bool) (s t : List ℕ) (p : Spot)
+    → fits k (length s) ≡ true → inLimits c ≡ true → limits ≡ true → p ≡ movedCell c → t ≡ paint k ink (around (unmovedCell p) rule) s
+    → Draws (record { shape = k; answer = ringAnswer k c limits; figures = only ink (around c rule) }) s (done []) t
+unfolding ringAnswer
+ring-done k ink c limits rule s t p e f g h q =
+    draws _ s [] t (simp (e, f, g)) (q ∙ ap (λ (d : Cell). paint k ink (around d rule) s) (lifted-cell c p f h .stands))
 
 -- what the inner functions are promised
 pub centred : (c : Cell) (p : Spot) → inLimits c ≡ true → p ≡ movedCell c → Centred p
@@ -51,8 +38,7 @@ semi-axis-is : (a : ℕ) → T (semiAxis a) → (1 ≤ a) × (a ≤ 16383)
 unfolding semiAxis
 semi-axis-is a t = (leb→le 1 a (and-l (leb 1 a) (leb a 16383) t), leb→le a 16383 (and-r (leb 1 a) (leb a 16383) t))
 
-pub semi-axes-are : (a b : ℕ) → semiAxes a b ≡ true → (1 ≤ a) × (a ≤ 16383) × (1 ≤ b) × (b ≤ 16383)
-unfolding semiAxes
+pub semi-axes-are : (a b : ℕ) → (semiAxis a && semiAxis b) ≡ true → (1 ≤ a) × (a ≤ 16383) × (1 ≤ b) × (b ≤ 16383)
 semi-axes-are a b e =
     let t = from-true (semiAxis a && semiAxis b) e in
     let p = semi-axis-is a (and-l (semiAxis a) (semiAxis b) t) in

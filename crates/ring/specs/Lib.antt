@@ -1,3 +1,3 @@
 pub mod Ring
-pub mod Answer
+pub mod Draw
 pub mod Inner

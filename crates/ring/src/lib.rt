@@ -2,17 +2,16 @@
 ghost use mathlib.Core.Path.{_≡_};
 ghost use mathlib.Core.Bool.{_&&_};
 ghost use Prim.Native.Nat.{_≤_, _<_};
-ghost use lib.ListN.{length};
-ghost use Rattle.sheet.specs.Sheet.{paint, radius, semiAxis};
-ghost use Rattle.sheet.specs.Reply.{settled};
-ghost use Rattle.sheet.specs.Drawn.{toldDrawn};
+ghost use Rattle.sheet.specs.Sheet.{paint};
+ghost use Rattle.sheet.specs.Reply.{told};
+ghost use Rattle.sheet.specs.Drawing.{Draws};
 ghost use Rattle.sheet.specs.Inner.{unmovedCell};
-ghost use Rattle.ring.specs.Ring.{around, circleRule, ellipseRule, onCircle, onEllipse};
-ghost use Rattle.ring.specs.Answer.{semiAxes, circleAnswer, ellipseAnswer};
+ghost use Rattle.ring.specs.Ring.{around, circleRule, ellipseRule};
+ghost use Rattle.ring.specs.Draw.{circleDrawing, ellipseDrawing};
 ghost use Rattle.ring.specs.Inner.{edge, Least, Centred, isOffset, turned, columns};
 use sheet::Cell;
-use sheet::Drawn;
 use sheet::Refusal;
+use sheet::Reply;
 use sheet::Shape;
 use sheet::Spot;
 
@@ -51,7 +50,8 @@ fn ink_four(sheet: &mut [u8], shape: Shape, ink: u8, centre: Spot, x: u32, y: u3
 // Inks them where they are wanted.
 fn ink_wanted(sheet: &mut [u8], shape: Shape, ink: u8, centre: Spot, wanted: bool, x: u32, y: u32)
     requires { ⌜ Centred centre × (x ≤ 16383) × (y ≤ 16383) ⌝ }
-    ensures { λ r. ⌜ now (sheet .exit) ≡ paint shape ink (around (unmovedCell centre) (λ u v. wanted && isOffset x y u v)) (now (sheet .entry)) ⌝ }
+    ensures { λ r. ⌜ now (sheet .exit)
+        ≡ paint shape ink (around (unmovedCell centre) (λ u v. wanted && isOffset x y u v)) (now (sheet .entry)) ⌝ }
 {
     if wanted {
         ink_four(sheet, shape, ink, centre, x, y);
@@ -70,7 +70,8 @@ fn ink_turned(
     y: u64,
 )
     requires { ⌜ Centred centre × (x ≤ 16383) × (y ≤ 16383) ⌝ }
-    ensures { λ r. ⌜ now (sheet .exit) ≡ paint shape ink (around (unmovedCell centre) (turned straight turn (isOffset x y))) (now (sheet .entry)) ⌝ }
+    ensures { λ r. ⌜ now (sheet .exit)
+        ≡ paint shape ink (around (unmovedCell centre) (turned straight turn (isOffset x y))) (now (sheet .entry)) ⌝ }
 {
     let along = x as u32;
     let across = y as u32;
@@ -78,7 +79,8 @@ fn ink_turned(
     ink_wanted(sheet, shape, ink, centre, turn, across, along);
 }
 
-// Inks the columns of an ellipse where straight holds, and the rows of the one with its axes exchanged where turn holds. It ends where the slope test turns.
+// Inks the columns of an ellipse where straight holds, and the rows of the one with its axes exchanged where turn holds.
+// It ends where the slope test turns.
 fn sweep(
     sheet: &mut [u8],
     shape: Shape,
@@ -90,7 +92,8 @@ fn sweep(
     b: u64,
 )
     requires { ⌜ Centred centre × (1 ≤ a) × (a ≤ 16383) × (b ≤ 16383) ⌝ }
-    ensures { λ r. ⌜ now (sheet .exit) ≡ paint shape ink (around (unmovedCell centre) (turned straight turn (columns a b))) (now (sheet .entry)) ⌝ }
+    ensures { λ r. ⌜ now (sheet .exit)
+        ≡ paint shape ink (around (unmovedCell centre) (turned straight turn (columns a b))) (now (sheet .entry)) ⌝ }
 {
     let aa = a * a;
     let bb = b * b;
@@ -127,64 +130,35 @@ fn circle_on(sheet: &mut [u8], shape: Shape, ink: u8, centre: Spot, r: u64)
     }
 }
 
-// Whether a circle's radius is within its limits.
-fn is_radius(r: u32) -> bool
-    ensures { λ d. ⌜ d ≡ radius r ⌝ }
-{
-    r <= 16383
-}
-
-// Whether a semi-axis is within its limits.
-fn is_semi_axis(a: u32) -> bool
-    ensures { λ r. ⌜ r ≡ semiAxis a ⌝ }
-{
-    if a < 1 {
-        return false;
-    }
-    a <= 16383
-}
-
-// Whether both are.
-fn are_semi_axes(a: u32, b: u32) -> bool
-    ensures { λ r. ⌜ r ≡ semiAxes a b ⌝ }
-{
-    if !is_semi_axis(a) {
-        return false;
-    }
-    is_semi_axis(b)
-}
-
 // Draws the circle of radius r about the centre.
-pub fn draw_circle(sheet: &mut [u8], shape: Shape, ink: u8, centre: Cell, r: u32) -> Drawn
-    ensures { λ d. ⌜ toldDrawn d ≡ circleAnswer shape (length (now (sheet .entry))) centre r ⌝ }
-    ensures { λ d. ⌜ now (sheet .exit) ≡ settled (circleAnswer shape (length (now (sheet .entry))) centre r) (paint shape ink (onCircle centre r) (now (sheet .entry))) (now (sheet .entry)) ⌝ }
+pub fn draw_circle(sheet: &mut [u8], shape: Shape, ink: u8, centre: Cell, r: u32) -> Reply
+    ensures { λ d. ⌜ Draws (circleDrawing shape ink centre r) (now (sheet .entry)) (told d) (now (sheet .exit)) ⌝ }
 {
     if !sheet::fits(shape, sheet.len()) {
-        return Drawn::Refused(Refusal::Size);
+        return Reply::Refused(Refusal::Size);
     }
     if !sheet::in_limits(centre) {
-        return Drawn::Refused(Refusal::Coordinate);
+        return Reply::Refused(Refusal::Coordinate);
     }
-    if !is_radius(r) {
-        return Drawn::Refused(Refusal::Radius);
+    if !sheet::is_radius(r) {
+        return Reply::Refused(Refusal::Radius);
     }
     circle_on(sheet, shape, ink, sheet::lift_cell(centre), r as u64);
-    Drawn::Done
+    Reply::Done
 }
 
 // Draws the ellipse of semi-axes a and b about the centre.
-pub fn draw_ellipse(sheet: &mut [u8], shape: Shape, ink: u8, centre: Cell, a: u32, b: u32) -> Drawn
-    ensures { λ r. ⌜ toldDrawn r ≡ ellipseAnswer shape (length (now (sheet .entry))) centre a b ⌝ }
-    ensures { λ r. ⌜ now (sheet .exit) ≡ settled (ellipseAnswer shape (length (now (sheet .entry))) centre a b) (paint shape ink (onEllipse centre a b) (now (sheet .entry))) (now (sheet .entry)) ⌝ }
+pub fn draw_ellipse(sheet: &mut [u8], shape: Shape, ink: u8, centre: Cell, a: u32, b: u32) -> Reply
+    ensures { λ r. ⌜ Draws (ellipseDrawing shape ink centre a b) (now (sheet .entry)) (told r) (now (sheet .exit)) ⌝ }
 {
     if !sheet::fits(shape, sheet.len()) {
-        return Drawn::Refused(Refusal::Size);
+        return Reply::Refused(Refusal::Size);
     }
     if !sheet::in_limits(centre) {
-        return Drawn::Refused(Refusal::Coordinate);
+        return Reply::Refused(Refusal::Coordinate);
     }
-    if !are_semi_axes(a, b) {
-        return Drawn::Refused(Refusal::Radius);
+    if !(sheet::is_semi_axis(a) & sheet::is_semi_axis(b)) {
+        return Reply::Refused(Refusal::Radius);
     }
     ellipse_on(
         sheet,
@@ -194,5 +168,5 @@ pub fn draw_ellipse(sheet: &mut [u8], shape: Shape, ink: u8, centre: Cell, a: u3
         a as u64,
         b as u64,
     );
-    Drawn::Done
+    Reply::Done
 }

@@ -1,10 +1,13 @@
 -- The laws of `cellsOn`, the number of a figure's cells on the sheet.
-use Prim.Native.Nat.{ℕ, _+_, _<_}
+use Prim.Native.Nat.{ℕ, _+_, _≤_, _<_}
 use mathlib.Core.Path.{_≡_, sym, ap, _∙_}
-use mathlib.Core.Bool.{Bool, false, _||_}
-use lib.Dec.{eqb}
-use Rattle.laws.proofs.Below.{count-as, count-none, count-more}
-use Rattle.sheet.specs.Sheet.{bytes, place, cellOf, held, isCell, cellsOn}
+use mathlib.Core.Bool.{Bool, true, false, _&&_, _||_}
+use native.Mathlib.Omega.{arith}
+use native.Mathlib.Nat.{mul-le-mul}
+use lib.Dec.{T, eqb, leb→le}
+use Rattle.laws.proofs.Below.{count-as, count-most, count-none, count-more}
+use Rattle.laws.proofs.Tests.{and-l, and-r, from-true}
+use Rattle.sheet.specs.Sheet.{size, bytes, fits, place, cellOf, held, isCell, cellsOn}
 use Rattle.sheet.specs.declared.Cell.{Cell}
 use Rattle.sheet.specs.declared.Shape.{Shape}
 use Rattle.sheet.proofs.Cells.{place-below}
@@ -20,6 +23,15 @@ module _ (k : Shape) where
   pub cells-none : (f : Cell → Bool) → ((x y : ℕ) → x < k .width → y < k .height → f (cellOf x y) ≡ false) → cellsOn k f ≡ 0
   unfolding cellsOn
   cells-none f h = count-none (bytes k) (held k f) (λ n l. held-none k f h n)
+
+  -- no more than 4,096 × 4,096 on any sheet
+  pub cells-most : (n : ℕ) (f : Cell → Bool) → fits k n ≡ true → cellsOn k f ≤ 16777216
+  unfolding cellsOn fits
+  cells-most n f e =
+      let t : T (size (k .width) && size (k .height) && eqb n (bytes k)) = from-true (fits k n) e in
+      let w : k .width ≤ 4096 = search (leb→le, and-l, and-r) in
+      let h : k .height ≤ 4096 = search (leb→le, and-l, and-r) in
+      omega (arith, count-most (bytes k) (held k f), mul-le-mul {n₁ = k .width} {m₁ = k .height} {n₂ = 4096} {m₂ = 4096} w h)
 
   -- one cell more
   pub cells-more : (f : Cell → Bool) (x y : ℕ) → x < k .width → y < k .height → f (cellOf x y) ≡ false

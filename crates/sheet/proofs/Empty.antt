@@ -4,12 +4,12 @@ use Prim.Native.Nat.{ℕ}
 use mathlib.Core.Path.{_≡_, sym, ap, _∙_}
 use mathlib.Core.Bool.{true, false, true≢false}
 use lib.Dec.{eqb}
-use Rattle.sheet.specs.Reply.{Answer}
+use Rattle.sheet.specs.Reply.{Answer, isDone}
 
 -- a statement answers one input with 0 and refuses another
 pub record Both {I : Type 0} (answer : I → Answer) (i j : I) : Type 0 where
-  pub done : eqb (answer i .number) 0 ≡ true
-  pub refused : eqb (answer j .number) 0 ≡ false
+  pub done : isDone (answer i) ≡ true
+  pub refused : isDone (answer j) ≡ false
 
 -- its answers to two inputs differ
 abbrev pub Differ : {I B : Type 0} (answer : I → B) (i j : I) → Type 0

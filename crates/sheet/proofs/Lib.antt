@@ -3,7 +3,8 @@ pub mod Places
 pub mod Paint
 pub mod Count
 pub mod Empty
+pub mod Figures
 pub mod Limits
 pub mod Marks
-mod Refused
+pub mod Draws
 pub mod Unique

@@ -1,10 +1,10 @@
 -- The limits, as the code meets them: a slice that fits, a coordinate on the moved plane.
 use Prim.Native.Nat.{ℕ, _+_, _-_, _≤_, _<_}
-use mathlib.Core.Path.{_≡_, refl, sym, subst, ap, _∙_}
+use mathlib.Core.Path.{_≡_, refl, subst, ap, _∙_}
 use mathlib.Core.List.{List}
-use mathlib.Core.Bool.{Bool, true, false, _&&_, not}
+use mathlib.Core.Bool.{true, false, _&&_}
 use native.Mathlib.Omega.{arith}
-use borrow.Author.Tests.{eqb-true, eqb-false, le-leb, eq-eqb}
+use borrow.Author.Tests.{le-leb, eq-eqb}
 use lib.ListN.{length}
 use lib.Dec.{T, eqb, leb→le, eqb→eq}
 use lib.IntN.{ℤ, pos, negsuc}
@@ -14,7 +14,7 @@ use mir.Val.{SFits, toZ, ofZ}
 use mir.Facts.{toZ-ofZ}
 use Rattle.laws.proofs.Parts.{up, dn}
 use Rattle.laws.proofs.Ints.{le-parts, one-zero, parts, to-≡ℤ, is-leZ, no-leZ}
-use Rattle.laws.proofs.Tests.{and-l, and-r, is-true, from-true}
+use Rattle.laws.proofs.Tests.{and-l, and-r, from-true, halves}
 use Rattle.sheet.specs.Sheet.{size, bytes, fits, coordinate, inLimits, cellOf}
 use Rattle.sheet.specs.Inner.{moved, unmoved, movedCell, unmovedCell, lowered, loweredCell, Moved, Sheet}
 use Rattle.sheet.specs.declared.Cell.{Cell}
@@ -101,28 +101,6 @@ lift-in z m p e =
       stands = to-≡ℤ (unmoved m) z (simp parts (omega (arith, one-zero z)));
     }
 
-pub lifted : (z : ℤ) (m : ℕ) → m ≡ moved z → (m ≡ 0 → ⊥) → Lifted z m
-lifted z m e f = by (coordinate z) refl
-  where
-    by : (t : Bool) → coordinate z ≡ t → Lifted z m
-    by true p = lift-in z m p e
-    by false p = absurd (f (e ∙ moved-out z p))
-
-pub not-lifted : (z : ℤ) (m : ℕ) → m ≡ moved z → m ≡ 0 → coordinate z ≡ false
-not-lifted z m e f = by (coordinate z) refl
-  where
-    by : (t : Bool) → coordinate z ≡ t → t ≡ false
-    by true p = absurd (omega (arith, limit-low z p, moved-is z p))
-    by false p = refl
-
--- whether a coordinate was lifted
-pub is-lifted : (z : ℤ) (m : ℕ) → m ≡ moved z → not (eqb m 0) ≡ coordinate z
-is-lifted z m e = by (eqb m 0) refl
-  where
-    by : (t : Bool) → eqb m 0 ≡ t → not t ≡ coordinate z
-    by true p = sym (not-lifted z m e (eqb-true m 0 p))
-    by false p = sym (lifted z m e (eqb-false m 0 p) .ok)
-
 -- a moved coordinate stands for one within the limits
 pub moved-in : (m : ℕ) → Moved m → coordinate (unmoved m) ≡ true
 moved-in m h = limit-in (unmoved m) (simp parts (omega (arith, h .least))) (simp parts (omega (arith, h .most)))
@@ -130,11 +108,11 @@ moved-in m h = limit-in (unmoved m) (simp parts (omega (arith, h .least))) (simp
 -- a cell within the limits, by its coordinates
 pub limits-x : (c : Cell) → inLimits c ≡ true → coordinate (c .x) ≡ true
 unfolding inLimits
-limits-x c e = is-true (coordinate (c .x)) (and-l (coordinate (c .x)) (coordinate (c .y)) (from-true (inLimits c) e))
+limits-x c e = halves (coordinate (c .x)) (coordinate (c .y)) e .0
 
 pub limits-y : (c : Cell) → inLimits c ≡ true → coordinate (c .y) ≡ true
 unfolding inLimits
-limits-y c e = is-true (coordinate (c .y)) (and-r (coordinate (c .x)) (coordinate (c .y)) (from-true (inLimits c) e))
+limits-y c e = halves (coordinate (c .x)) (coordinate (c .y)) e .1
 
 -- a cell within the limits, lifted
 pub record LiftedCell (c : Cell) (p : Spot) : Type 0 where
@@ -185,5 +163,5 @@ lowered-moved z e =
     let l = limit-low z e in
     let h = limit-high z e in
     let f = moved-is z e in
-    let k = lifted z (moved z) refl (λ p. omega arith) in
+    let k = lift-in z (moved z) e refl in
     lowered-is (moved z) (k .inside .least) (k .inside .most) ∙ k .stands

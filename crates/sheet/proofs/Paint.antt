@@ -1,12 +1,13 @@
 -- The laws of painting: what loops carry, and what a reader may conclude.
 use Prim.Native.Nat.{ℕ, _<_}
 use mathlib.Core.Path.{_≡_, refl, sym, subst, ap, _∙_}
-use mathlib.Core.List.{List}
+use mathlib.Core.List.{List, [], _∷_}
 use mathlib.Core.Bool.{Bool, true, false, cond, _&&_, _||_, and-false, and-or-distrib-left, or-self}
 use lib.ListN.{length, getD, set}
 use lib.Dec.{T, eqb, eqb→eq}
 use Rattle.laws.proofs.Tests.{and-r, and-i, same, from-true, eqb-of}
 use Rattle.sheet.specs.Sheet.{onSheet, place, cellOf, cellAt, held, paint, isCell}
+use Rattle.sheet.specs.Drawing.{Inked, paintAll}
 use Rattle.sheet.specs.declared.Cell.{Cell}
 use Rattle.sheet.specs.declared.Shape.{Shape}
 use Rattle.sheet.proofs.Cells.{on-sheet, sheet-cell, in-sheet, is-cell→, is-cell-refl, cell-at-place, place-cell-at}
@@ -110,14 +111,14 @@ module _ (k : Shape) (ink : ℕ) where
   pub paint-twice : (f : Cell → Bool) (s : List ℕ) → paint k ink f (paint k ink f s) ≡ paint k ink f s
   paint-twice f s = paint-then f f s ∙ paint-as _ f s (λ x y a b. or-self (f (cellOf x y)))
 
--- later over earlier: a figure painted over one that it covers leaves nothing of it
-pub paint-over : (k : Shape) (ink over : ℕ) (f g : Cell → Bool) (s : List ℕ) → ((c : Cell) → T (f c) → T (g c))
-    → paint k over g (paint k ink f s) ≡ paint k over g s
+-- Later over earlier: a figure drawn over one that it covers leaves nothing of it.
+pub paint-over : (k : Shape) (f g : Inked) (s : List ℕ) → ((c : Cell) → T (f .figure c) → T (g .figure c))
+    → paintAll k (f ∷ g ∷ []) s ≡ paintAll k (g ∷ []) s
 unfolding paint held
-paint-over k ink over f g s h =
-    by-then _ _ s ∙ by-as _ _ s (λ n v l. by (onSheet k (cellAt k n)) (f (cellAt k n)) (g (cellAt k n)) v (h (cellAt k n)))
+paint-over k f g s h =
+    by-then _ _ s ∙ by-as _ _ s (λ n v l. by (onSheet k (cellAt k n)) (f .figure (cellAt k n)) (g .figure (cellAt k n)) v (h (cellAt k n)))
   where
-    by : (t a b : Bool) (v : ℕ) → (T a → T b) → cond (t && b) over (cond (t && a) ink v) ≡ cond (t && b) over v
+    by : (t a b : Bool) (v : ℕ) → (T a → T b) → cond (t && b) (g .ink) (cond (t && a) (f .ink) v) ≡ cond (t && b) (g .ink) v
     by false a b v i = refl
     by true a true v i = refl
     by true false false v i = refl

@@ -1,86 +1,95 @@
--- Two replies that meet one statement are equal: the table is one-to-one, and so is the telling of each reply.
+-- Two replies that meet one statement are equal: the table is one-to-one, and so is the telling of a reply.
 use Prim.Native.Nat.{ℕ}
 use mathlib.Core.Path.{_≡_, refl, sym, ap, _∙_}
-use mathlib.Core.Bool.{false, cond}
-use lib.ListN.{getD}
+use mathlib.Core.List.{List, [], _∷_, map}
+use mathlib.Core.Logic.{inl, inr}
+use mathlib.Core.Bool.{Bool, true, false, cond}
+use native.Mathlib.Omega.{arith}
+use borrow.Author.Tests.{eqb-true}
+use denote.Enum.Declared.{Choice}
+use denote.Struct.Field.{Field}
 use lib.Dec.{eqb}
-use lib.IntN.{pos, natAbs}
-use Rattle.sheet.specs.Reply.{Answer, number}
-use Rattle.sheet.specs.Drawn.{toldDrawn}
-use Rattle.sheet.specs.Counted.{toldCounted}
-use Rattle.sheet.specs.declared.Drawn.{Drawn}
-use Rattle.sheet.specs.declared.Drawn.the-variants as drawn
-use Rattle.sheet.specs.declared.Counted.{Counted}
-use Rattle.sheet.specs.declared.Counted.the-variants as counted
+use lib.ListN.{length}
+use lib.IntN.{ℤ, natAbs}
+use Rattle.sheet.specs.Reply.{Answer, number, told, isDone}
 use Rattle.sheet.specs.declared.Refusal.{Refusal}
 use Rattle.sheet.specs.declared.Refusal.the-variants.{Size, Coordinate, Radius, Pieces, Room, Survey, NoCell, Short, Kind, Length}
+use Rattle.sheet.specs.declared.Reply.{Reply}
+use Rattle.sheet.specs.declared.Reply.the-variants.{Done, Counted, Refused, RefusedAt}
+use Rattle.sheet.proofs.Refusal.{parts, make}
 
--- the refusal of a number
+-- the first case of an enum without fields that passes a test
+first : (cases : List (List Field)) → (Choice cases → Bool) → List (Choice cases)
+first [] test = []
+first ([] ∷ rest) test = cond (test (inl tt)) (inl tt ∷ []) (map inr (first rest (λ c. test (inr c))))
+first ((f ∷ fs) ∷ rest) test = []
+
+-- the refusals of a number: one, or none
+refusals : ℕ → List Refusal
+refusals n = map make (first parts (λ c. eqb (number (make c)) n))
+
+number-finds : (r : Refusal) → refusals (number r) ≡ r ∷ []
+unfolding refusals first
+number-finds Size = refl
+number-finds Coordinate = refl
+number-finds Radius = refl
+number-finds Pieces = refl
+number-finds Room = refl
+number-finds Survey = refl
+number-finds NoCell = refl
+number-finds Short = refl
+number-finds Kind = refl
+number-finds Length = refl
+
+-- no refusal has the number 0
+pub number-not-0 : (r : Refusal) → eqb (number r) 0 ≡ false
+unfolding refusals first
+number-not-0 r = by (eqb (number r) 0) refl
+  where
+    by : (t : Bool) → eqb (number r) 0 ≡ t → t ≡ false
+    by true e =
+        let none : r ∷ [] ≡ [] = sym (number-finds r) ∙ ap refusals (eqb-true (number r) 0 e) in
+        let z : _≡_ {A = ℕ} 1 0 = ap length none in
+        absurd (omega arith)
+    by false e = refl
+
+-- the refusal of a number, and no two have one
+headOf : List Refusal → Refusal
+headOf [] = Size
+headOf (r ∷ rs) = r
+
 pub refusal : ℕ → Refusal
-refusal n =
-    cond (eqb n 1) Size
-    (cond (eqb n 2) Coordinate
-    (cond (eqb n 3) Radius
-    (cond (eqb n 4) Pieces
-    (cond (eqb n 5) Room
-    (cond (eqb n 6) Survey
-    (cond (eqb n 7) NoCell
-    (cond (eqb n 8) Short
-    (cond (eqb n 9) Kind Length))))))))
+refusal n = headOf (refusals n)
 
 pub refusal-number : (r : Refusal) → refusal (number r) ≡ r
-unfolding refusal
-refusal-number Size = refl
-refusal-number Coordinate = refl
-refusal-number Radius = refl
-refusal-number Pieces = refl
-refusal-number Room = refl
-refusal-number Survey = refl
-refusal-number NoCell = refl
-refusal-number Short = refl
-refusal-number Kind = refl
-refusal-number Length = refl
+unfolding refusal headOf
+refusal-number r = ap headOf (number-finds r)
 
--- no two refusals have one number
 pub number-one : (r q : Refusal) → number r ≡ number q → r ≡ q
 number-one r q e = sym (refusal-number r) ∙ ap refusal e ∙ refusal-number q
 
--- and none has 0
-pub number-not-0 : (r : Refusal) → eqb (number r) 0 ≡ false
-number-not-0 Size = refl
-number-not-0 Coordinate = refl
-number-not-0 Radius = refl
-number-not-0 Pieces = refl
-number-not-0 Room = refl
-number-not-0 Survey = refl
-number-not-0 NoCell = refl
-number-not-0 Short = refl
-number-not-0 Kind = refl
-number-not-0 Length = refl
-
 -- the reply that an answer tells
-drawnOf : Answer → Drawn
-drawnOf a = cond (eqb (a .number) 0) drawn.Done (drawn.Refused (refusal (a .number)))
+doneOf : List ℤ → Reply
+doneOf [] = Done
+doneOf (n ∷ ns) = Counted (natAbs n)
 
-drawn-of : (r : Drawn) → drawnOf (toldDrawn r) ≡ r
-unfolding drawnOf
-drawn-of drawn.Done = refl
-drawn-of (drawn.Refused r) = simp (number-not-0 r, refusal-number r)
+refusedOf : Refusal → List ℤ → Reply
+refusedOf r [] = Refused r
+refusedOf r (n ∷ ns) = RefusedAt r (natAbs n)
 
-countedOf : Answer → Counted
-countedOf a = cond (eqb (a .number) 0) (counted.Done (natAbs (getD (a .values) 0 (pos 0)))) (counted.Refused (refusal (a .number)))
+replyOf : Answer → Reply
+replyOf a = cond (isDone a) (doneOf (a .values)) (refusedOf (refusal (a .number)) (a .values))
 
-counted-of : (r : Counted) → countedOf (toldCounted r) ≡ r
-unfolding countedOf
-counted-of (counted.Done n) = refl
-counted-of (counted.Refused r) = simp (number-not-0 r, refusal-number r)
+reply-of : (r : Reply) → replyOf (told r) ≡ r
+unfolding replyOf doneOf refusedOf
+reply-of Done = refl
+reply-of (Counted n) = refl
+reply-of (Refused r) = simp (number-not-0 r, refusal-number r)
+reply-of (RefusedAt r at) = simp (number-not-0 r, refusal-number r)
 
 -- two replies told alike are equal
-pub drawn-one : (r q : Drawn) → toldDrawn r ≡ toldDrawn q → r ≡ q
-drawn-one r q e = sym (drawn-of r) ∙ ap drawnOf e ∙ drawn-of q
-
-pub counted-one : (r q : Counted) → toldCounted r ≡ toldCounted q → r ≡ q
-counted-one r q e = sym (counted-of r) ∙ ap countedOf e ∙ counted-of q
+pub told-one : (r q : Reply) → told r ≡ told q → r ≡ q
+told-one r q e = sym (reply-of r) ∙ ap replyOf e ∙ reply-of q
 
 -- Two values that meet one equation are equal; so are two replies of one answer, where telling is one-to-one. These serve every public function.
 pub one-value : {A : Type 0} (v w a : A) → v ≡ a → w ≡ a → v ≡ w

@@ -1,6 +1,5 @@
 pub mod Sheet
 pub mod Reply
-pub mod Drawn
-pub mod Counted
-pub mod Mark
+pub mod Drawing
+pub mod Figure
 pub mod Inner

@@ -1,11 +1,14 @@
 -- Document 01, "Reply numbers": the table, and what a reply is.
 use Prim.Native.Nat.{ℕ}
-use mathlib.Core.List.{List, []}
+use mathlib.Core.List.{List, [], _∷_}
 use mathlib.Core.Bool.{Bool, cond}
 use lib.Dec.{eqb}
-use lib.IntN.{ℤ}
+use lib.IntN.{ℤ, pos, natAbs}
+use lib.ListN.{getD}
 use Rattle.sheet.specs.declared.Refusal.{Refusal}
 use Rattle.sheet.specs.declared.Refusal.the-variants.{Size, Coordinate, Radius, Pieces, Room, Survey, NoCell, Short, Kind, Length}
+use Rattle.sheet.specs.declared.Reply.{Reply}
+use Rattle.sheet.specs.declared.Reply.the-variants.{Done, Counted, Refused, RefusedAt}
 
 -- the refusal's number in the table
 abbrev pub number : Refusal → ℕ
@@ -25,12 +28,29 @@ pub record Answer : Type 0 where
   pub number : ℕ
   pub values : List ℤ
 
--- 0 with its values; a refusal's number alone
+-- 0 with its values; a refusal's number alone; and, of a file, with its offset
 abbrev pub done : List ℤ → Answer
 done values = record { number = 0; values = values }
 
 abbrev pub refuse : Refusal → Answer
 refuse r = record { number = number r; values = [] }
+
+abbrev pub refuseAt : Refusal → ℕ → Answer
+refuseAt r at = record { number = number r; values = pos at ∷ [] }
+
+-- a reply in the paper's words
+abbrev pub told : Reply → Answer
+told Done = done []
+told (Counted n) = done (pos n ∷ [])
+told (Refused r) = refuse r
+told (RefusedAt r at) = refuseAt r at
+
+-- whether an answer is 0, and its first value, or 0 where it has none
+abbrev pub isDone : Answer → Bool
+isDone a = eqb (a .number) 0
+
+abbrev pub valueOf : Answer → ℕ
+valueOf a = natAbs (getD (a .values) 0 (pos 0))
 
 -- the refusal unless the test holds, and then what follows: tests in the order of the paper
 abbrev pub unless : Bool → Refusal → Answer → Answer
@@ -38,4 +58,4 @@ unless test r next = cond test next (refuse r)
 
 -- what is lent, after an answer: as the drawing leaves it, or untouched by a refusal
 abbrev pub settled {ℓ} : {A : Type ℓ} → Answer → A → A → A
-settled a drawn before = cond (eqb (a .number) 0) drawn before
+settled a drawn before = cond (isDone a) drawn before

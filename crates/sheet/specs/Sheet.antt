@@ -30,9 +30,12 @@ onSheet k c = leZ (pos 0) (c .x) && ltZ (c .x) (pos (k .width)) && leZ (pos 0) (
 unfoldable pub place : Shape → Cell → ℕ
 place k c = natAbs (c .y) * k .width + natAbs (c .x)
 
--- the cell of column x and row y; the cell that byte n is
+-- the cell of an x and a y; of a column and a row; the cell that byte n is
+abbrev pub cell : ℤ → ℤ → Cell
+cell x y = record { x = x; y = y }
+
 abbrev pub cellOf : ℕ → ℕ → Cell
-cellOf x y = record { x = pos x; y = pos y }
+cellOf x y = cell (pos x) (pos y)
 
 unfoldable pub cellAt : Shape → ℕ → Cell
 cellAt k n = cellOf (n % k .width) (n / k .width)

@@ -1,10 +1,8 @@
 // The sheet, the table of refusals, and marking: what every figure stands on.
 ghost use mathlib.Core.Path.{_≡_};
-ghost use lib.ListN.{length};
-ghost use Rattle.sheet.specs.Sheet.{fits, inLimits, isCell, paint};
-ghost use Rattle.sheet.specs.Reply.{number, settled};
-ghost use Rattle.sheet.specs.Drawn.{toldDrawn};
-ghost use Rattle.sheet.specs.Mark.{markAnswer};
+ghost use Rattle.sheet.specs.Sheet.{fits, coordinate, inLimits, radius, semiAxis, split, isCell, paint};
+ghost use Rattle.sheet.specs.Reply.{number, told, isDone, valueOf};
+ghost use Rattle.sheet.specs.Drawing.{Draws, markDrawing};
 ghost use Rattle.sheet.specs.Inner.{moved, lowered, movedCell, unmovedCell, loweredCell};
 
 // A cell of the unlimited grid. A pen that C lends holds two, so it has C's layout.
@@ -18,6 +16,18 @@ pub struct Cell {
 pub struct Spot {
     pub x: u32,
     pub y: u32,
+}
+
+// A figure, with its fields in the order of its record.
+pub enum Figure {
+    // the two ends
+    Line(Cell, Cell),
+    // the centre and r
+    Circle(Cell, u32),
+    // the centre, a and b
+    Ellipse(Cell, u32, u32),
+    // P0, P1, P2 and s
+    Curve(Cell, Cell, Cell, u32),
 }
 
 // The size of a sheet.
@@ -70,16 +80,47 @@ impl Refusal {
     }
 }
 
-// The reply of a drawing that tells nothing but that it is done.
-pub enum Drawn {
+// The reply of a drawing, of a listing and of a file.
+pub enum Reply {
     Done,
+    // how many: a line's cells on the sheet, those listed, a file's records
+    Counted(usize),
     Refused(Refusal),
+    // and the offset of what is refused in a file
+    RefusedAt(Refusal, usize),
 }
 
-// The reply of a drawing or a listing that tells its number of cells.
-pub enum Counted {
-    Done(u32),
-    Refused(Refusal),
+impl Reply {
+    // Its number in the table.
+    pub fn number(self) -> u32
+        ensures { λ r. ⌜ r ≡ told self .number ⌝ }
+    {
+        match self {
+            Reply::Done => 0,
+            Reply::Counted(_) => 0,
+            Reply::Refused(refusal) => refusal.number(),
+            Reply::RefusedAt(refusal, _) => refusal.number(),
+        }
+    }
+
+    // Its value, how many or the offset; 0 where it tells none.
+    pub fn value(self) -> usize
+        ensures { λ r. ⌜ r ≡ valueOf (told self) ⌝ }
+    {
+        match self {
+            Reply::Done => 0,
+            Reply::Counted(count) => count,
+            Reply::Refused(_) => 0,
+            Reply::RefusedAt(_, offset) => offset,
+        }
+    }
+
+    // Whether nothing is refused.
+    pub fn is_done(self) -> bool
+        ensures { λ r. ⌜ r ≡ isDone (told self) ⌝ }
+    {
+        self.number() == 0
+    }
 }
 
 // Whether a slice of this many bytes is a sheet of the shape.
@@ -103,14 +144,43 @@ pub fn fits(shape: Shape, bytes: usize) -> bool
     bytes == width as usize * height as usize
 }
 
+impl Cell {
+    // The limits of a coordinate.
+    pub const LEAST: i32 = -16384;
+
+    pub const MOST: i32 = 16383;
+}
+
+// Whether a coordinate, a radius, a semi-axis and s are within their limits.
+pub fn is_coordinate(z: i32) -> bool
+    ensures { λ r. ⌜ r ≡ coordinate z ⌝ }
+{
+    (Cell::LEAST <= z) & (z <= Cell::MOST)
+}
+
+pub fn is_radius(n: u32) -> bool
+    ensures { λ r. ⌜ r ≡ radius n ⌝ }
+{
+    n <= 16383
+}
+
+pub fn is_semi_axis(n: u32) -> bool
+    ensures { λ r. ⌜ r ≡ semiAxis n ⌝ }
+{
+    (1 <= n) & (n <= 16383)
+}
+
+pub fn is_split(n: u32) -> bool
+    ensures { λ r. ⌜ r ≡ split n ⌝ }
+{
+    n <= 6
+}
+
 // A coordinate, lifted onto the moved plane; 0 for one outside the limits.
 pub fn lift(z: i32) -> u32
     ensures { λ r. ⌜ r ≡ moved z ⌝ }
 {
-    if z < -16384 {
-        return 0;
-    }
-    if 16383 < z {
+    if !is_coordinate(z) {
         return 0;
     }
     (z + 65536) as u32
@@ -153,11 +223,7 @@ pub fn lower_cell(spot: Spot) -> Cell
 pub fn in_limits(cell: Cell) -> bool
     ensures { λ r. ⌜ r ≡ inLimits cell ⌝ }
 {
-    let spot = lift_cell(cell);
-    if spot.x == 0 {
-        return false;
-    }
-    spot.y != 0
+    is_coordinate(cell.x) & is_coordinate(cell.y)
 }
 
 // Sets the cell at the spot to the ink where it is on the sheet; any other is skipped.
@@ -190,16 +256,15 @@ pub fn ink_at(sheet: &mut [u8], shape: Shape, ink: u8, spot: Spot)
 }
 
 // Sets one cell to the ink: the smallest drawing.
-pub fn mark(sheet: &mut [u8], shape: Shape, ink: u8, cell: Cell) -> Drawn
-    ensures { λ r. ⌜ toldDrawn r ≡ markAnswer shape (length (now (sheet .entry))) cell ⌝ }
-    ensures { λ r. ⌜ now (sheet .exit) ≡ settled (markAnswer shape (length (now (sheet .entry))) cell) (paint shape ink (isCell cell) (now (sheet .entry))) (now (sheet .entry)) ⌝ }
+pub fn mark(sheet: &mut [u8], shape: Shape, ink: u8, cell: Cell) -> Reply
+    ensures { λ r. ⌜ Draws (markDrawing shape ink cell) (now (sheet .entry)) (told r) (now (sheet .exit)) ⌝ }
 {
     if !fits(shape, sheet.len()) {
-        return Drawn::Refused(Refusal::Size);
+        return Reply::Refused(Refusal::Size);
     }
     if !in_limits(cell) {
-        return Drawn::Refused(Refusal::Coordinate);
+        return Reply::Refused(Refusal::Coordinate);
     }
     ink_at(sheet, shape, ink, lift_cell(cell));
-    Drawn::Done
+    Reply::Done
 }

@@ -13,7 +13,7 @@ use Rattle.laws.proofs.Tests.{and-l, and-r, and-i, from-true, is-true}
 use Rattle.laws.proofs.Products.{lt-or-ge}
 use Rattle.sheet.specs.Sheet.{coordinate}
 use Rattle.sheet.proofs.Limits.{limit-low, limit-high, limit-in}
-use Rattle.survey.specs.Cell.{isCellOf, fromLeast, among, findCell}
+use Rattle.survey.specs.Cell.{isCellOf, fromLeast, findAmong, findCell}
 use Rattle.survey.specs.Inner.{Between}
 use Rattle.survey.specs.declared.Found.{Found}
 use Rattle.survey.specs.declared.Found.the-variants.{At, NoCell}
@@ -73,15 +73,15 @@ counted-between q k l t =
 within-limits : (j : ℕ) → j < 32768 → T (coordinate (fromLeast j))
 within-limits j l = from-true (coordinate (fromLeast j)) (limit-in (fromLeast j) (simp parts (omega arith)) (simp parts (omega arith)))
 
--- what `among` finds passes the test, and where it finds none, none does
+-- what `findAmong` finds passes the test, and where it finds none, none does
 Right : ℕ → (ℤ → Bool) → Found → Type 0
 Right n test (At k) = (j : ℕ) × (j < n) × (k ≡ fromLeast j) × T (test k)
 Right n test NoCell = (j : ℕ) → j < n → T (test (fromLeast j)) → ⊥
 
-among-right : (n : ℕ) (test : ℤ → Bool) → Right n test (among n test)
-unfolding among Right
+among-right : (n : ℕ) (test : ℤ → Bool) → Right n test (findAmong n test)
+unfolding findAmong Right
 among-right zero test = λ j l t. omega arith
-among-right (suc n) test = by (test (fromLeast n)) refl (among n test) (among-right n test)
+among-right (suc n) test = by (test (fromLeast n)) refl (findAmong n test) (among-right n test)
   where
     by : (b : Bool) → test (fromLeast n) ≡ b → (r : Found) → Right n test r → Right (suc n) test (cond b (At (fromLeast n)) r)
     by true e r h = (n, omega arith, refl, from-true (test (fromLeast n)) e)
@@ -94,7 +94,7 @@ among-right (suc n) test = by (test (fromLeast n)) refl (among n test) (among-ri
 -- The cell of q is the whole number k with k ≤ q and q < k + 1; there is none exactly if no such k in the limits exists.
 pub cell-right : (q : Float) → CellOf q (findCell q)
 unfolding findCell Right
-cell-right q = by (among 32768 (isCellOf q)) (among-right 32768 (isCellOf q))
+cell-right q = by (findAmong 32768 (isCellOf q)) (among-right 32768 (isCellOf q))
   where
     by : (r : Found) → Right 32768 (isCellOf q) r → CellOf q r
     by (At k) h = (subst (λ (z : ℤ). T (coordinate z)) (sym (h .2)) (within-limits (h .0) (h .1)), h .3)

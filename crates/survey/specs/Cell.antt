@@ -18,13 +18,13 @@ abbrev pub fromLeast : ℕ → ℤ
 fromLeast j = pos j -ℤ pos 16384
 
 -- the one of the n least coordinates that passes a test, or that there is none
-unfoldable pub among : ℕ → (ℤ → Bool) → Found
-among zero test = NoCell
-among (suc n) test = cond (test (fromLeast n)) (At (fromLeast n)) (among n test)
+unfoldable pub findAmong : ℕ → (ℤ → Bool) → Found
+findAmong zero test = NoCell
+findAmong (suc n) test = cond (test (fromLeast n)) (At (fromLeast n)) (findAmong n test)
 
 -- The cell of the float q is the whole number k with k ≤ q and q < k + 1, in −16,384 to 16,383.
 unfoldable pub findCell : Float → Found
-findCell q = among 32768 (isCellOf q)
+findCell q = findAmong 32768 (isCellOf q)
 
 -- Number 7 is given exactly if no such k in the limits exists.
 abbrev pub toldFound : Found → Answer

@@ -3,10 +3,13 @@ ghost use mathlib.Core.Path.{_≡_};
 ghost use Prim.Native.Nat.{_+_, _≤_};
 ghost use lib.Ieee.{binary64, ofInt};
 ghost use lib.Ieee.Scale as scale;
+ghost use Rattle.sheet.specs.Sheet.{radius, semiAxis};
 ghost use Rattle.survey.specs.Cell.{fromLeast, findCell, toldFound};
-ghost use Rattle.survey.specs.Metres.{findCoordinate, findLength, sound, lineOf, circleOf, ellipseOf, inCells, toldInCells};
+ghost use Rattle.survey.specs.Metres.{findCoordinate, findLength, sound, inCells, toldInCells};
+ghost use Rattle.survey.specs.Metres.{isLength, lineOf, circleOf, ellipseOf};
 ghost use Rattle.survey.specs.Inner.{Between};
 use sheet::Cell;
+use sheet::Figure;
 use sheet::Refusal;
 
 // A survey: the origins of x and y and the size of a cell, in metres.
@@ -32,14 +35,9 @@ pub enum Metres {
     Ellipse(f64, f64, f64, f64),
 }
 
-// The figure in cells.
+// The figure in cells, within its limits.
 pub enum InCells {
-    // the two ends
-    Line(Cell, Cell),
-    // the centre and r
-    Circle(Cell, i32),
-    // the centre, a and b
-    Ellipse(Cell, i32, i32),
+    Figure(Figure),
     Refused(Refusal),
 }
 
@@ -118,6 +116,25 @@ pub fn sound(survey: Survey) -> bool
     finite(survey.east) & finite(survey.north) & finite(survey.size) & (0.0 < survey.size)
 }
 
+// Whether a length in cells, which may be below 0, is within the limits of a radius, and of a semi-axis.
+fn is_radius(length: i32) -> bool
+    ensures { λ r. ⌜ r ≡ isLength radius length ⌝ }
+{
+    if length < 0 {
+        return false;
+    }
+    sheet::is_radius(length as u32)
+}
+
+fn is_semi_axis(length: i32) -> bool
+    ensures { λ r. ⌜ r ≡ isLength semiAxis length ⌝ }
+{
+    if length < 0 {
+        return false;
+    }
+    sheet::is_semi_axis(length as u32)
+}
+
 // The line between two ends, if each of its fields has a cell.
 fn line_of(x0: Found, y0: Found, x1: Found, y1: Found) -> InCells
     ensures { λ v. ⌜ v ≡ lineOf x0 y0 x1 y1 ⌝ }
@@ -134,7 +151,7 @@ fn line_of(x0: Found, y0: Found, x1: Found, y1: Found) -> InCells
     let Found::At(y1) = y1 else {
         return InCells::Refused(Refusal::NoCell);
     };
-    InCells::Line(Cell { x: x0, y: y0 }, Cell { x: x1, y: y1 })
+    InCells::Figure(Figure::Line(Cell { x: x0, y: y0 }, Cell { x: x1, y: y1 }))
 }
 
 // The circle of a centre and a radius.
@@ -150,7 +167,10 @@ fn circle_of(x: Found, y: Found, r: Found) -> InCells
     let Found::At(r) = r else {
         return InCells::Refused(Refusal::NoCell);
     };
-    InCells::Circle(Cell { x, y }, r)
+    if !is_radius(r) {
+        return InCells::Refused(Refusal::Radius);
+    }
+    InCells::Figure(Figure::Circle(Cell { x, y }, r as u32))
 }
 
 // The ellipse of a centre and two semi-axes.
@@ -169,7 +189,10 @@ fn ellipse_of(x: Found, y: Found, a: Found, b: Found) -> InCells
     let Found::At(b) = b else {
         return InCells::Refused(Refusal::NoCell);
     };
-    InCells::Ellipse(Cell { x, y }, a, b)
+    if !(is_semi_axis(a) & is_semi_axis(b)) {
+        return InCells::Refused(Refusal::Radius);
+    }
+    InCells::Figure(Figure::Ellipse(Cell { x, y }, a as u32, b as u32))
 }
 
 // A figure in metres as one in cells: x with the east origin and y with the north.

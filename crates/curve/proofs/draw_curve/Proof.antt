@@ -5,13 +5,16 @@ use mathlib.Core.Bool.{true}
 use mathlib.Core.List.{[], _∷_}
 use denote.Ref.{now}
 use lib.ListN.{length}
+use borrow.Author.Tests.{leb-true}
 use Rattle.laws.proofs.Tests.{no, yes}
-use Rattle.sheet.specs.Sheet.{fits, paint}
+use Rattle.sheet.specs.Sheet.{fits, split, paint}
+use Rattle.sheet.specs.declared.Refusal.the-variants.{Size, Coordinate, Pieces}
+use Rattle.sheet.proofs.Draws.{refuses}
 use Rattle.sheet.proofs.Limits.{fits-sheet}
-use Rattle.curve.specs.Draw.{allInLimits}
+use Rattle.curve.specs.Draw.{allInLimits, curveAnswer}
 use Rattle.curve.specs.Inner.{Bends, firstPieces}
 use Rattle.curve.specs.declared.Controls.{Controls}
-use Rattle.curve.proofs.Answers.{bends, curve-size, curve-control, curve-pieces, curve-done}
+use Rattle.curve.proofs.Answers.{bends, curve-done}
 use borrow.Author.Needs.{needs}
 use Rattle.curve.proofs.draw_curve.Statement.{statement}
 use Rattle.curve.proofs.draw_curve.Tie as tie
@@ -23,9 +26,12 @@ fitted c = yes _ _ (c .before .fits2 .ensures) (c .if1 .left)
 limited : (c : tie.Else2) → let a = c .before .before .before .before .before .args in allInLimits (a .p0 ∷ a .p1 ∷ a .p2 ∷ []) ≡ true
 limited c = yes _ _ (c .before .in-limits .ensures) (c .if2 .left)
 
+parted : (c : tie.Else3) → split (c .before .before .before .before .before .before .before .args .s) ≡ true
+parted c = yes _ _ (c .before .is-split .ensures) (c .if3 .left)
+
 lifted : (c : tie.After-controls-of) → Bends (c .controls-of .result)
 lifted c =
-    let inside = c .before .before in
+    let inside = c .before .before .before in
     let a = inside .before .before .before .before .before .args in
     subst Bends (sym (c .controls-of .ensures)) (bends (a .p0) (a .p1) (a .p2) (limited inside))
 
@@ -33,25 +39,24 @@ fits-requires : tie.Need-fits-requires
 fits-requires c κs = search needs
 
 returns : tie.Need-returns
-returns c =
-    let a = c .before .before .before .args in
-    curve-size (a .shape) (a .ink) (a .p0) (a .p1) (a .p2) (a .s) (now (a .sheet)) (no _ _ (c .before .fits2 .ensures) (c .if1 .taken))
+unfolding curveAnswer
+returns c = refuses _ _ Size (simp (no _ _ (c .before .fits2 .ensures) (c .if1 .taken)))
 
 in-limits-requires : tie.Need-in-limits-requires
 in-limits-requires c κs = search needs
 
 returns-2 : tie.Need-returns-2
-returns-2 c =
-    let sized = c .before .before in
-    let a = sized .before .before .before .args in
-    curve-control (a .shape) (a .ink) (a .p0) (a .p1) (a .p2) (a .s) (now (a .sheet)) (fitted sized) (no _ _ (c .before .in-limits .ensures) (c .if2 .taken))
+unfolding curveAnswer
+returns-2 c = refuses _ _ Coordinate (simp (fitted (c .before .before), no _ _ (c .before .in-limits .ensures) (c .if2 .taken)))
+
+is-split-requires : tie.Need-is-split-requires
+is-split-requires c κs = search needs
 
 returns-3 : tie.Need-returns-3
+unfolding curveAnswer
 returns-3 c =
-    let inside = c .before in
-    let sized = inside .before .before in
-    let a = sized .before .before .before .args in
-    curve-pieces (a .shape) (a .ink) (a .p0) (a .p1) (a .p2) (a .s) (now (a .sheet)) (fitted sized) (limited inside) (c .if3 .taken)
+    let inside = c .before .before in
+    refuses _ _ Pieces (simp (fitted (inside .before .before), limited inside, no _ _ (c .before .is-split .ensures) (c .if3 .taken)))
 
 controls-of-requires : tie.Need-controls-of-requires
 controls-of-requires c κs = search needs
@@ -59,10 +64,10 @@ controls-of-requires c κs = search needs
 join-requires : tie.Need-join-requires
 join-requires c κs =
     let bent = c .before in
-    let split = bent .before in
-    let sized = split .before .before .before in
+    let pieces = bent .before in
+    let sized = pieces .before .before .before .before in
     let a = sized .before .before .before .args in
-    (fits-sheet (a .shape) (now (a .sheet)) (fitted sized), lifted bent, split .if3 .left)
+    (fits-sheet (a .shape) (now (a .sheet)) (fitted sized), lifted bent, leb-true (a .s) 6 (parted pieces))
 
 same-length : tie.Need-same-length
 same-length c = search needs
@@ -71,13 +76,12 @@ returns-4 : tie.Need-returns-4
 returns-4 c =
     let called = c .before .before in
     let bent = called .before .before in
-    let split = bent .before in
-    let inside = split .before in
+    let pieces = bent .before in
+    let inside = pieces .before .before in
     let sized = inside .before .before in
     let a = sized .before .before .before .args in
-    let e = bent .controls-of .ensures in
-    curve-done (a .shape) (a .ink) (a .p0) (a .p1) (a .p2) (a .s) (now (a .sheet)) (fitted sized) (limited inside) (split .if3 .left)
-    _ (called .join .ensures ∙ ap (λ (k : Controls). paint (a .shape) (a .ink) (firstPieces k (a .s) (2 ^ a .s)) (now (a .sheet))) e)
+    curve-done (a .shape) (a .ink) (a .p0) (a .p1) (a .p2) (a .s) (now (a .sheet)) _ (fitted sized) (limited inside) (parted pieces)
+    (called .join .ensures ∙ ap (λ (k : Controls). paint (a .shape) (a .ink) (firstPieces k (a .s) (2 ^ a .s)) (now (a .sheet))) (bent .controls-of .ensures))
 
 pub draw-curve-spec : {M : Type 1} → statement M
 draw-curve-spec =
@@ -87,6 +91,7 @@ draw-curve-spec =
     returns
     in-limits-requires
     returns-2
+    is-split-requires
     returns-3
     controls-of-requires
     join-requires

@@ -1,12 +1,10 @@
 -- `curve::piece` meets its contract.
 use mathlib.Core.Path.{refl, _∙_}
 use denote.Ref.{now}
-use lib.ListN.{length}
-use Rattle.sheet.specs.Sheet.{paint}
+use Rattle.sheet.specs.Inner.{unmovedCell}
+use Rattle.sheet.proofs.Draws.{draws-as}
 use Rattle.sheet.proofs.Limits.{sheet-fits, lowered-cell}
-use Rattle.sheet.specs.Reply.{settled}
-use Rattle.line.specs.Rule.{onLine}
-use Rattle.line.specs.Draw.{lineAnswer}
+use Rattle.line.specs.Draw.{lineDrawing}
 use Rattle.line.proofs.Answers.{line-drawn}
 use borrow.Author.Needs.{needs}
 use Rattle.curve.proofs.piece.Statement.{statement}
@@ -32,9 +30,8 @@ returns c =
     let s = now (a .sheet) in
     let from = called .before .before .lower-cell .ensures ∙ lowered-cell (a .from) _ refl (start .pre .1 .0) in
     let to = called .before .lower-cell2 .ensures ∙ lowered-cell (a .to) _ refl (start .pre .1 .1) in
-    called .draw-line .ensures .1
-    ∙ (λ t. settled (lineAnswer (a .shape) (length s) (from t) (to t)) (paint (a .shape) (a .ink) (onLine (from t) (to t)) s) s)
-    ∙ line-drawn (a .shape) (length s) _ _ _ s (sheet-fits (a .shape) s (start .pre .0)) (start .pre .1 .0) (start .pre .1 .1)
+    let line = draws-as _ s _ _ _ (λ t. lineDrawing (a .shape) (a .ink) (from t) (to t)) (called .draw-line .ensures) in
+    line-drawn (a .shape) (unmovedCell (a .from)) (unmovedCell (a .to)) (a .ink) s _ _ (sheet-fits (a .shape) s (start .pre .0)) (start .pre .1 .0) (start .pre .1 .1) line
 
 pub piece-spec : {M : Type 1} → statement M
 piece-spec =

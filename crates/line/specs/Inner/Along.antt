@@ -24,8 +24,8 @@ abbrev pub reached : Bool → ℕ → ℕ → ℕ
 reached up m g = cond up (m * 4294967296 + g) (m * 4294967296 + 4294967295 - g)
 
 -- the coordinate at the ith place, on a line from m with the longer extent l, f parts from cell to cell
-unfoldable pub along : Bool → Bool → ℕ → ℕ → ℕ → ℕ → ℤ
-along first up m l f i = unmoved (stepped up m (gone l f (numberAt first l i) / 4294967296))
+unfoldable pub ithAlong : Bool → Bool → ℕ → ℕ → ℕ → ℕ → ℤ
+ithAlong first up m l f i = unmoved (stepped up m (gone l f (numberAt first l i) / 4294967296))
 
 -- what is promised of such a line
 pub record Bounded (m l f : ℕ) : Type 0 where

@@ -16,7 +16,7 @@ abbrev pub leaves : Bool → ℕ → ℕ → ℕ
 leaves up m size = cond up (65536 + size - m) (m - 65535)
 
 -- r is the least n ≤ l at which the shorter extent has come k steps, and l + 1 where there is none
-pub record Least (k l s r : ℕ) : Type 0 where
+pub record FirstAt (k l s r : ℕ) : Type 0 where
   pub low : r ≤ l + 1
   pub from : (n : ℕ) → n ≤ l → r ≤ n → k ≤ rise l s n
   pub until : (n : ℕ) → n ≤ l → n < r → rise l s n < k

@@ -4,8 +4,8 @@ use mathlib.Core.Path.{_≡_, sym, ap, _∙_}
 use native.Mathlib.Omega.{arith}
 use denote.Ref.{now}
 use lib.ListN.{length}
+use Rattle.sheet.specs.Reply.{told}
 use Rattle.record.specs.Reading.{readAt}
-use Rattle.record.specs.File.{toldChecked}
 use Rattle.record.specs.declared.types.Read.the-variants as read
 use Rattle.record.proofs.Stands.{stands}
 use Rattle.record.proofs.Counting.{Counting, begins, turn, closes}
@@ -34,7 +34,7 @@ returns : tie.Need-returns Inv-loop μ-loop
 returns c =
     let answer = c .before .before in
     let loop = answer .before .loop in
-    ap toldChecked (c .closed .ensures) ∙ closes _ (loop .count) (loop .at) (loop .inv) (answer .read .result) (answer .read .ensures .1) (c .before .match .keys2)
+    ap told (c .closed .ensures) ∙ closes _ (loop .count) (loop .at) (loop .inv) (answer .read .result) (answer .read .ensures .1) (c .before .match .keys2)
 
 -- the record that was read
 is-record : (c : tie.After-known-told Inv-loop μ-loop)

@@ -1,44 +1,47 @@
 -- `ring::draw_circle` meets its contract.
+use mathlib.Core.Path.{_≡_}
+use mathlib.Core.Bool.{true}
+use lib.ListN.{length}
 use denote.Ref.{now}
 use Rattle.laws.proofs.Tests.{no, yes}
-use Rattle.ring.specs.Ring.{circleRule}
-use Rattle.sheet.specs.Sheet.{radius}
-use Rattle.ring.proofs.Answers.{ring-size, ring-coordinate, ring-radius, ring-done, centred, radius-is}
+use Rattle.sheet.specs.Sheet.{fits, inLimits}
+use Rattle.sheet.specs.declared.Refusal.the-variants.{Size, Coordinate, Radius}
+use Rattle.sheet.proofs.Draws.{refuses}
+use Rattle.ring.specs.Draw.{ringAnswer}
+use Rattle.ring.proofs.Answers.{ring-done, centred, radius-is}
 use borrow.Author.Needs.{needs}
 use Rattle.ring.proofs.draw_circle.Statement.{statement}
 use Rattle.ring.proofs.draw_circle.Tie as tie
+
+-- what each test showed
+fitted : (c : tie.Else1) → fits (c .before .before .before .args .shape) (length (now (c .before .before .before .args .sheet))) ≡ true
+fitted c = yes _ _ (c .before .fits2 .ensures) (c .if1 .left)
+
+inside : (c : tie.Else2) → inLimits (c .before .before .before .before .before .args .centre) ≡ true
+inside c = yes _ _ (c .before .in-limits .ensures) (c .if2 .left)
 
 fits-requires : tie.Need-fits-requires
 fits-requires c κs = search needs
 
 returns : tie.Need-returns
-returns c =
-    let a = c .before .before .before .args in
-    ring-size (a .shape) (a .ink) (a .centre) (radius (a .r)) (circleRule (a .r)) (now (a .sheet)) (no _ _ (c .before .fits2 .ensures) (c .if1 .taken))
+unfolding ringAnswer
+returns c = refuses _ _ Size (simp (no _ _ (c .before .fits2 .ensures) (c .if1 .taken)))
 
 in-limits-requires : tie.Need-in-limits-requires
 in-limits-requires c κs = search needs
 
 returns-2 : tie.Need-returns-2
-returns-2 c =
-    let sized = c .before .before in
-    let a = sized .before .before .before .args in
-    ring-coordinate (a .shape) (a .ink) (a .centre) (radius (a .r)) (circleRule (a .r)) (now (a .sheet))
-    (yes _ _ (sized .before .fits2 .ensures) (sized .if1 .left))
-    (no _ _ (c .before .in-limits .ensures) (c .if2 .taken))
+unfolding ringAnswer
+returns-2 c = refuses _ _ Coordinate (simp (fitted (c .before .before), no _ _ (c .before .in-limits .ensures) (c .if2 .taken)))
 
 is-radius-requires : tie.Need-is-radius-requires
 is-radius-requires c κs = search needs
 
 returns-3 : tie.Need-returns-3
+unfolding ringAnswer
 returns-3 c =
     let limited = c .before .before in
-    let sized = limited .before .before in
-    let a = sized .before .before .before .args in
-    ring-radius (a .shape) (a .ink) (a .centre) (radius (a .r)) (circleRule (a .r)) (now (a .sheet))
-    (yes _ _ (sized .before .fits2 .ensures) (sized .if1 .left))
-    (yes _ _ (limited .before .in-limits .ensures) (limited .if2 .left))
-    (no _ _ (c .before .is-radius .ensures) (c .if3 .taken))
+    refuses _ _ Radius (simp (fitted (limited .before .before), inside limited, no _ _ (c .before .is-radius .ensures) (c .if3 .taken)))
 
 lift-cell-requires : tie.Need-lift-cell-requires
 lift-cell-requires c κs = search needs
@@ -48,7 +51,7 @@ circle-on-requires c κs =
     let tested = c .before .before in
     let limited = tested .before .before in
     let a = limited .before .before .before .before .before .args in (
-      centred (a .centre) (c .lift-cell .result) (yes _ _ (limited .before .in-limits .ensures) (limited .if2 .left)) (c .lift-cell .ensures),
+      centred (a .centre) (c .lift-cell .result) (inside limited) (c .lift-cell .ensures),
       radius-is (a .r) (yes _ _ (tested .before .is-radius .ensures) (tested .if3 .left)),
     )
 
@@ -62,12 +65,8 @@ returns-4 c =
     let limited = tested .before .before in
     let sized = limited .before .before in
     let a = sized .before .before .before .args in
-    ring-done (a .shape) (a .ink) (a .centre) (radius (a .r)) (circleRule (a .r)) (now (a .sheet)) (called .before .lift-cell .result) _
-    (yes _ _ (sized .before .fits2 .ensures) (sized .if1 .left))
-    (yes _ _ (limited .before .in-limits .ensures) (limited .if2 .left))
-    (yes _ _ (tested .before .is-radius .ensures) (tested .if3 .left))
-    (called .before .lift-cell .ensures)
-    (called .circle-on .ensures)
+    ring-done (a .shape) (a .ink) (a .centre) _ _ (now (a .sheet)) _ _ (fitted sized) (inside limited)
+    (yes _ _ (tested .before .is-radius .ensures) (tested .if3 .left)) (called .before .lift-cell .ensures) (called .circle-on .ensures)
 
 pub draw-circle-spec : {M : Type 1} → statement M
 draw-circle-spec =

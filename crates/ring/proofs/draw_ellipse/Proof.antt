@@ -1,55 +1,66 @@
 -- `ring::draw_ellipse` meets its contract.
+use mathlib.Core.Path.{_≡_, ap₂}
+use mathlib.Core.Bool.{true, _&&_}
+use lib.ListN.{length}
 use denote.Ref.{now}
 use Rattle.laws.proofs.Tests.{no, yes}
-use Rattle.ring.specs.Ring.{ellipseRule}
-use Rattle.ring.specs.Answer.{semiAxes}
-use Rattle.ring.proofs.Answers.{ring-size, ring-coordinate, ring-radius, ring-done, centred, semi-axes-are}
+use Rattle.sheet.specs.Sheet.{fits, inLimits, semiAxis}
+use Rattle.sheet.specs.declared.Refusal.the-variants.{Size, Coordinate, Radius}
+use Rattle.sheet.proofs.Draws.{refuses}
+use Rattle.ring.specs.Draw.{ringAnswer}
+use Rattle.ring.proofs.Answers.{ring-done, centred, semi-axes-are}
 use borrow.Author.Needs.{needs}
 use Rattle.ring.proofs.draw_ellipse.Statement.{statement}
 use Rattle.ring.proofs.draw_ellipse.Tie as tie
+
+-- what each test showed
+fitted : (c : tie.Else1) → fits (c .before .before .before .args .shape) (length (now (c .before .before .before .args .sheet))) ≡ true
+fitted c = yes _ _ (c .before .fits2 .ensures) (c .if1 .left)
+
+inside : (c : tie.Else2) → inLimits (c .before .before .before .before .before .args .centre) ≡ true
+inside c = yes _ _ (c .before .in-limits .ensures) (c .if2 .left)
+
+tested : (c : tie.After-is-semi-axis2)
+    → (c .before .is-semi-axis .result && c .is-semi-axis2 .result)
+    ≡ (semiAxis (c .before .before .before .before .before .before .before .args .a) && semiAxis (c .before .before .before .before .before .before .before .args .b))
+tested c = ap₂ _&&_ (c .before .is-semi-axis .ensures) (c .is-semi-axis2 .ensures)
 
 fits-requires : tie.Need-fits-requires
 fits-requires c κs = search needs
 
 returns : tie.Need-returns
-returns c =
-    let a = c .before .before .before .args in
-    ring-size (a .shape) (a .ink) (a .centre) (semiAxes (a .a) (a .b)) (ellipseRule (a .a) (a .b)) (now (a .sheet)) (no _ _ (c .before .fits2 .ensures) (c .if1 .taken))
+unfolding ringAnswer
+returns c = refuses _ _ Size (simp (no _ _ (c .before .fits2 .ensures) (c .if1 .taken)))
 
 in-limits-requires : tie.Need-in-limits-requires
 in-limits-requires c κs = search needs
 
 returns-2 : tie.Need-returns-2
-returns-2 c =
-    let sized = c .before .before in
-    let a = sized .before .before .before .args in
-    ring-coordinate (a .shape) (a .ink) (a .centre) (semiAxes (a .a) (a .b)) (ellipseRule (a .a) (a .b)) (now (a .sheet))
-    (yes _ _ (sized .before .fits2 .ensures) (sized .if1 .left))
-    (no _ _ (c .before .in-limits .ensures) (c .if2 .taken))
+unfolding ringAnswer
+returns-2 c = refuses _ _ Coordinate (simp (fitted (c .before .before), no _ _ (c .before .in-limits .ensures) (c .if2 .taken)))
 
-are-semi-axes-requires : tie.Need-are-semi-axes-requires
-are-semi-axes-requires c κs = search needs
+is-semi-axis-requires : tie.Need-is-semi-axis-requires
+is-semi-axis-requires c κs = search needs
+
+is-semi-axis-requires-2 : tie.Need-is-semi-axis-requires-2
+is-semi-axis-requires-2 c κs = search needs
 
 returns-3 : tie.Need-returns-3
+unfolding ringAnswer
 returns-3 c =
-    let limited = c .before .before in
-    let sized = limited .before .before in
-    let a = sized .before .before .before .args in
-    ring-radius (a .shape) (a .ink) (a .centre) (semiAxes (a .a) (a .b)) (ellipseRule (a .a) (a .b)) (now (a .sheet))
-    (yes _ _ (sized .before .fits2 .ensures) (sized .if1 .left))
-    (yes _ _ (limited .before .in-limits .ensures) (limited .if2 .left))
-    (no _ _ (c .before .are-semi-axes .ensures) (c .if3 .taken))
+    let limited = c .before .before .before in
+    refuses _ _ Radius (simp (fitted (limited .before .before), inside limited, no _ _ (tested (c .before)) (c .if3 .taken)))
 
 lift-cell-requires : tie.Need-lift-cell-requires
 lift-cell-requires c κs = search needs
 
 ellipse-on-requires : tie.Need-ellipse-on-requires
 ellipse-on-requires c κs =
-    let tested = c .before .before in
-    let limited = tested .before .before in
+    let axes = c .before .before in
+    let limited = axes .before .before .before in
     let a = limited .before .before .before .before .before .args in
-    let l = semi-axes-are (a .a) (a .b) (yes _ _ (tested .before .are-semi-axes .ensures) (tested .if3 .left)) in (
-      centred (a .centre) (c .lift-cell .result) (yes _ _ (limited .before .in-limits .ensures) (limited .if2 .left)) (c .lift-cell .ensures),
+    let l = semi-axes-are (a .a) (a .b) (yes _ _ (tested (axes .before)) (axes .if3 .left)) in (
+      centred (a .centre) (c .lift-cell .result) (inside limited) (c .lift-cell .ensures),
       l .0,
       l .1,
       l .2,
@@ -62,16 +73,12 @@ same-length c = search needs
 returns-4 : tie.Need-returns-4
 returns-4 c =
     let called = c .before .before in
-    let tested = called .before .before .before in
-    let limited = tested .before .before in
+    let axes = called .before .before .before in
+    let limited = axes .before .before .before in
     let sized = limited .before .before in
     let a = sized .before .before .before .args in
-    ring-done (a .shape) (a .ink) (a .centre) (semiAxes (a .a) (a .b)) (ellipseRule (a .a) (a .b)) (now (a .sheet)) (called .before .lift-cell .result) _
-    (yes _ _ (sized .before .fits2 .ensures) (sized .if1 .left))
-    (yes _ _ (limited .before .in-limits .ensures) (limited .if2 .left))
-    (yes _ _ (tested .before .are-semi-axes .ensures) (tested .if3 .left))
-    (called .before .lift-cell .ensures)
-    (called .ellipse-on .ensures)
+    ring-done (a .shape) (a .ink) (a .centre) _ _ (now (a .sheet)) _ _ (fitted sized) (inside limited)
+    (yes _ _ (tested (axes .before)) (axes .if3 .left)) (called .before .lift-cell .ensures) (called .ellipse-on .ensures)
 
 pub draw-ellipse-spec : {M : Type 1} → statement M
 draw-ellipse-spec =
@@ -81,7 +88,8 @@ draw-ellipse-spec =
     returns
     in-limits-requires
     returns-2
-    are-semi-axes-requires
+    is-semi-axis-requires
+    is-semi-axis-requires-2
     returns-3
     lift-cell-requires
     ellipse-on-requires

@@ -7,12 +7,12 @@ use lib.ListN.{length}
 use Rattle.record.specs.Reading.{readAt}
 use Rattle.record.specs.declared.types.Read.the-variants as read
 use Rattle.record.proofs.Stands.{stands}
-use Rattle.drawing.proofs.Records.{Drawing, begins, turn, closes}
+use Rattle.drawing.proofs.Records.{DrawsOn, begins, turn, closes}
 use Rattle.drawing.proofs.file.draw_records.Statement.{statement}
 use Rattle.drawing.proofs.file.draw_records.Tie as tie
 
 abbrev Inv-loop : tie.InvT-loop
-Inv-loop sheet₀ shape file at₀ sheet at = Drawing shape file sheet₀ sheet at
+Inv-loop sheet₀ shape file at₀ sheet at = DrawsOn shape file sheet₀ sheet at
 
 abbrev μ-loop : tie.MeasureT-loop
 μ-loop sheet₀ shape file at₀ sheet at = length file - at
@@ -61,7 +61,7 @@ loop-again c =
     let start = head .before .before .before in
     let a = start .args in
     let loop = head .loop in
-    turn (a .shape) (now (a .file)) (now (a .sheet)) (loop .sheet) (loop .at) (loop .inv) _ _ (is-record known) (start .pre .0) (called .draw-figure .ensures .1)
+    turn (a .shape) (now (a .file)) (now (a .sheet)) (loop .sheet) (loop .at) (loop .inv) _ _ _ (is-record known) (start .pre .0) (called .draw-figure .ensures)
 
 pub draw-records-spec : {M : Type 1} → statement M
 draw-records-spec =

@@ -1,12 +1,15 @@
 -- `line::draw::draw_line` meets its contract.
 use mathlib.Core.Path.{_≡_}
-use mathlib.Core.Bool.{true}
+use mathlib.Core.Bool.{true, _&&_}
 use lib.ListN.{length}
 use denote.Ref.{now}
 use Rattle.laws.proofs.Tests.{no, yes}
 use Rattle.sheet.specs.Sheet.{fits, inLimits}
+use Rattle.sheet.specs.declared.Refusal.the-variants.{Size, Coordinate}
+use Rattle.sheet.proofs.Draws.{refuses}
 use Rattle.sheet.proofs.Limits.{fits-sheet}
-use Rattle.line.proofs.Answers.{line-size, line-from, line-to, line-runs, line-done}
+use Rattle.line.specs.Draw.{lineAnswer}
+use Rattle.line.proofs.Answers.{line-runs, line-done}
 use borrow.Author.Needs.{needs}
 use Rattle.line.proofs.draw.draw_line.Statement.{statement}
 use Rattle.line.proofs.draw.draw_line.Tie as tie
@@ -15,38 +18,22 @@ use Rattle.line.proofs.draw.draw_line.Tie as tie
 fitted : (c : tie.Else1) → fits (c .before .before .before .args .shape) (length (now (c .before .before .before .args .sheet))) ≡ true
 fitted c = yes _ _ (c .before .fits2 .ensures) (c .if1 .left)
 
-from-in : (c : tie.Else2) → inLimits (c .before .before .before .before .before .args .from) ≡ true
-from-in c = yes _ _ (c .before .in-limits .ensures) (c .if2 .left)
-
-to-in : (c : tie.Else3) → inLimits (c .before .before .before .before .before .before .before .args .to) ≡ true
-to-in c = yes _ _ (c .before .in-limits2 .ensures) (c .if3 .left)
+inside : (c : tie.Else2) → let a = c .before .before .before .before .before .args in (inLimits (a .from) && inLimits (a .to)) ≡ true
+inside c = yes _ _ (c .before .in-limits .ensures) (c .if2 .left)
 
 fits-requires : tie.Need-fits-requires
 fits-requires c κs = search needs
 
 returns : tie.Need-returns
-returns c =
-    let a = c .before .before .before .args in
-    line-size (a .shape) (a .ink) (a .from) (a .to) (now (a .sheet)) (no _ _ (c .before .fits2 .ensures) (c .if1 .taken))
+unfolding lineAnswer
+returns c = refuses _ _ Size (simp (no _ _ (c .before .fits2 .ensures) (c .if1 .taken)))
 
 in-limits-requires : tie.Need-in-limits-requires
 in-limits-requires c κs = search needs
 
 returns-2 : tie.Need-returns-2
-returns-2 c =
-    let sized = c .before .before in
-    let a = sized .before .before .before .args in
-    line-from (a .shape) (a .ink) (a .from) (a .to) (now (a .sheet)) (fitted sized) (no _ _ (c .before .in-limits .ensures) (c .if2 .taken))
-
-in-limits-requires-2 : tie.Need-in-limits-requires-2
-in-limits-requires-2 c κs = search needs
-
-returns-3 : tie.Need-returns-3
-returns-3 c =
-    let limited = c .before .before in
-    let sized = limited .before .before in
-    let a = sized .before .before .before .args in
-    line-to (a .shape) (a .ink) (a .from) (a .to) (now (a .sheet)) (fitted sized) (from-in limited) (no _ _ (c .before .in-limits2 .ensures) (c .if3 .taken))
+unfolding lineAnswer
+returns-2 c = refuses _ _ Coordinate (simp (fitted (c .before .before), no _ _ (c .before .in-limits .ensures) (c .if2 .taken)))
 
 lift-cell-requires : tie.Need-lift-cell-requires
 lift-cell-requires c κs = search needs
@@ -60,26 +47,27 @@ course-of-requires c κs = search needs
 run-requires : tie.Need-run-requires
 run-requires c κs =
     let lifted = c .before .before in
-    let both = lifted .before .before in
-    let limited = both .before .before in
+    let limited = lifted .before .before in
     let sized = limited .before .before in
     let a = sized .before .before .before .args in
-    (fits-sheet (a .shape) (now (a .sheet)) (fitted sized), line-runs (a .shape) (a .ink) (a .from) (a .to) (now (a .sheet)) _ _ _ (from-in limited) (to-in both) (lifted .before .lift-cell .ensures) (lifted .lift-cell2 .ensures) (c .before .course-of .ensures))
+    (fits-sheet (a .shape) (now (a .sheet)) (fitted sized), line-runs (a .shape) (a .from) (a .to) _ _ _ (inside limited) (lifted .before .lift-cell .ensures) (lifted .lift-cell2 .ensures) (c .before .course-of .ensures))
+
+cast-t8 : tie.Need-cast-t8
+cast-t8 c = search needs
 
 same-length : tie.Need-same-length
 same-length c = search needs
 
-returns-4 : tie.Need-returns-4
-returns-4 c =
+returns-3 : tie.Need-returns-3
+returns-3 c =
     let called = c .before .before in
     let charted = called .before .before in
     let lifted = charted .before in
-    let both = lifted .before .before in
-    let limited = both .before .before in
+    let limited = lifted .before .before in
     let sized = limited .before .before in
     let a = sized .before .before .before .args in
-    line-done (a .shape) (a .ink) (a .from) (a .to) (now (a .sheet)) _ _ _ (from-in limited) (to-in both) (lifted .before .lift-cell .ensures) (lifted .lift-cell2 .ensures) (charted .course-of .ensures)
-    (fitted sized) _ _ (called .run .ensures .0) (called .run .ensures .1)
+    line-done (a .shape) (a .from) (a .to) _ _ _ (inside limited) (lifted .before .lift-cell .ensures) (lifted .lift-cell2 .ensures) (charted .course-of .ensures)
+    (a .ink) _ (now (a .sheet)) _ (fitted sized) (called .run .ensures .0) (called .run .ensures .1)
 
 pub draw-line-spec : {M : Type 1} → statement M
 draw-line-spec =
@@ -89,11 +77,10 @@ draw-line-spec =
     returns
     in-limits-requires
     returns-2
-    in-limits-requires-2
-    returns-3
     lift-cell-requires
     lift-cell-requires-2
     course-of-requires
     run-requires
+    cast-t8
     same-length
-    returns-4)
+    returns-3)

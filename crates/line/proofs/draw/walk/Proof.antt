@@ -14,8 +14,8 @@ Inv-loop sheet₀ shape ink course first past f t p₀ at₀ n₀ sheet p at n =
 abbrev μ-loop : tie.MeasureT-loop
 μ-loop sheet₀ shape ink course first past f t p₀ at₀ n₀ sheet p at n = past - n
 
-slope-of-requires : tie.Need-slope-of-requires Inv-loop μ-loop
-slope-of-requires c κs = let r = c .before .pre .0 .1 in (r .shorter, r .limit)
+gradient-of-requires : tie.Need-gradient-of-requires Inv-loop μ-loop
+gradient-of-requires c κs = let r = c .before .pre .0 .1 in (r .shorter, r .limit)
 
 tally-at-requires : tie.Need-tally-at-requires Inv-loop μ-loop
 tally-at-requires c κs = let p = c .before .before .pre in omega (arith, p .1 .1 .low, p .0 .1 .limit)
@@ -34,7 +34,7 @@ byte-at-requires c κs =
     let r = start .pre .0 .1 in
     let range = start .pre .1 .1 in
     let u : a .first ≤ a .course .long = omega (arith, range .low) in
-    let t = tally-is (a .course .long) (a .course .short) (a .first) _ _ (c .before .before .before .slope-of .ensures) (c .before .before .tally-at .ensures .0) in
+    let t = tally-is (a .course .long) (a .course .short) (a .first) _ _ (c .before .before .before .gradient-of .ensures) (c .before .before .tally-at .ensures .0) in
     ((k .wide, k .high, r), (u, c .whole .ensures ∙ ap (λ (z : ℕ). z / 4294967296) t ∙ tally-rise (a .course .long) (a .course .short) (a .first) (r .shorter) (r .limit) u, range .on (a .first) (omega arith) (omega arith)))
 
 loop-holds : tie.Need-loop-holds Inv-loop μ-loop
@@ -43,7 +43,7 @@ loop-holds c =
     let start = called .before .before .before .before in
     let a = start .args in
     let p = start .pre in
-    let t = tally-is (a .course .long) (a .course .short) (a .first) _ _ (called .before .before .slope-of .ensures) (called .before .tally-at .ensures .0) in
+    let t = tally-is (a .course .long) (a .course .short) (a .first) _ _ (called .before .before .gradient-of .ensures) (called .before .tally-at .ensures .0) in
     begins (a .shape) (a .ink) (a .course) (a .first) (a .past) (p .0 .1) (p .1 .1) (p .1 .0)
     (now (a .sheet)) (called .part .result) (c .byte-at .result) (p .0 .0) (called .part .ensures ∙ ap (λ (z : ℕ). z % 2 ^ 32) t) (c .byte-at .ensures)
 
@@ -79,8 +79,8 @@ loop-again c =
     turn (a .shape) (a .ink) (a .course) (a .first) (a .past) (p .0 .1) (p .1 .1) (p .1 .0)
     (now (a .sheet)) (k .sheet) (k .p) (k .at) (k .n) (k .inv) (c .before .before .loop-test .taken)
     (p .0 .0 .wide) (p .0 .0 .high)
-    (sloped .slope-of .result) _ (c .before .wrapping-add-u32 .result) (c .hop .result)
-    (sloped .slope-of .ensures) (c .before .wrapping-add-u32 .ensures) refl (c .hop .ensures)
+    (sloped .gradient-of .result) _ (c .before .wrapping-add-u32 .result) (c .hop .result)
+    (sloped .gradient-of .ensures) (c .before .wrapping-add-u32 .ensures) refl (c .hop .ensures)
 
 same-length : tie.Need-same-length Inv-loop μ-loop
 same-length c =
@@ -102,7 +102,7 @@ walk-spec =
     (tie.spec
     Inv-loop
     μ-loop
-    slope-of-requires
+    gradient-of-requires
     tally-at-requires
     part-requires
     whole-requires

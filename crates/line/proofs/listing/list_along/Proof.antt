@@ -4,7 +4,7 @@ use mathlib.Core.Path.{_≡_, ap, _∙_}
 use native.Mathlib.Omega.{arith}
 use lib.ListN.{length}
 use denote.Ref.{now}
-use Rattle.line.specs.Inner.Along.{over, along}
+use Rattle.line.specs.Inner.Along.{over, ithAlong}
 use Rattle.line.proofs.Rise.{from-either}
 use Rattle.line.proofs.Along.{Running, begins, turn, number-first, gain-le, within, over-length}
 use Rattle.line.proofs.listing.list_along.Statement.{statement}
@@ -86,14 +86,14 @@ loop-again c =
 same-length : tie.Need-same-length Inv-loop μ-loop
 same-length c =
     let a = c .before .before .before .before .before .args in
-    ap length (c .before .loop .inv .listed) ∙ over-length (along (a .first) (a .up) (a .m) (a .l) (a .f)) (c .before .loop .i) (now (a .list))
+    ap length (c .before .loop .inv .listed) ∙ over-length (ithAlong (a .first) (a .up) (a .m) (a .l) (a .f)) (c .before .loop .i) (now (a .list))
 
 returns : tie.Need-returns Inv-loop μ-loop
 returns c =
     let a = c .before .before .before .before .before .args in
     let k = c .before .loop in
     let e : k .i ≡ a .l + 1 = omega (arith, k .inv .most) in
-    k .inv .listed ∙ ap (λ (n : ℕ). over (along (a .first) (a .up) (a .m) (a .l) (a .f)) n (now (a .list))) e
+    k .inv .listed ∙ ap (λ (n : ℕ). over (ithAlong (a .first) (a .up) (a .m) (a .l) (a .f)) n (now (a .list))) e
 
 pub list-along-spec : {M : Type 1} → statement M
 list-along-spec =

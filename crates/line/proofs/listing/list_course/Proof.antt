@@ -6,8 +6,8 @@ use borrow.Author.Needs.{needs}
 use Rattle.line.proofs.listing.list_course.Statement.{statement}
 use Rattle.line.proofs.listing.list_course.Tie as tie
 
-slope-of-requires : tie.Need-slope-of-requires
-slope-of-requires c κs = search needs
+gradient-of-requires : tie.Need-gradient-of-requires
+gradient-of-requires c κs = search needs
 
 cast-f : tie.Need-cast-f
 cast-f c = search needs
@@ -20,7 +20,7 @@ list-along-requires c κs =
     let slope-at = c .before .before in
     let a = slope-at .before .args in
     let p = slope-at .before .pre in
-    (x-bounded (a .course) (p .0) (slope-at .slope-of .result) (slope-at .slope-of .ensures) (c .chosen-parts .result) (c .chosen-parts .ensures), p .1)
+    (x-bounded (a .course) (p .0) (slope-at .gradient-of .result) (slope-at .gradient-of .ensures) (c .chosen-parts .result) (c .chosen-parts .ensures), p .1)
 
 chosen-parts-requires-2 : tie.Need-chosen-parts-requires-2
 chosen-parts-requires-2 c κs = search needs
@@ -30,7 +30,7 @@ list-along-requires-2 c κs =
     let slope-at = c .before .before .before .before .before .before in
     let a = slope-at .before .args in
     let p = slope-at .before .pre in
-    (y-bounded (a .course) (p .0) (slope-at .slope-of .result) (slope-at .slope-of .ensures) (c .chosen-parts2 .result) (c .chosen-parts2 .ensures), p .2)
+    (y-bounded (a .course) (p .0) (slope-at .gradient-of .result) (slope-at .gradient-of .ensures) (c .chosen-parts2 .result) (c .chosen-parts2 .ensures), p .2)
 
 same-length : tie.Need-same-length
 same-length c = search needs
@@ -44,7 +44,7 @@ returns c =
     let slope-at = chosen-at .before .before in
     let a = slope-at .before .args in
     let p = slope-at .before .pre in
-    let f = slope-at .slope-of in (
+    let f = slope-at .gradient-of in (
       c .before .before .before .before .before .list-along .ensures ∙ x-over (a .course) (p .0) (f .result) (f .ensures) (chosen-at .chosen-parts .result) (chosen-at .chosen-parts .ensures) (a .first) (now (a .xs)),
       c .before .list-along2 .ensures ∙ y-over (a .course) (p .0) (f .result) (f .ensures) (c .before .before .chosen-parts2 .result) (c .before .before .chosen-parts2 .ensures) (a .first) (now (a .ys)),
     )
@@ -53,7 +53,7 @@ pub list-course-spec : {M : Type 1} → statement M
 list-course-spec =
     tie.close
     (tie.spec
-    slope-of-requires
+    gradient-of-requires
     cast-f
     chosen-parts-requires
     list-along-requires

@@ -1,11 +1,8 @@
 -- `line::listing::list_line` meets its contract.
-use mathlib.Core.Path.{_≡_}
-use mathlib.Core.Bool.{_&&_}
 use native.Mathlib.Omega.{arith}
 use lib.ListN.{length}
 use denote.Ref.{now}
 use Rattle.laws.proofs.Tests.{no, yes}
-use Rattle.sheet.specs.Sheet.{inLimits}
 use Rattle.line.specs.Inner.Course.{Runs}
 use Rattle.line.proofs.ListReplies.{rooms, list-coordinate, runs, list-room, list-done}
 use borrow.Author.Needs.{needs}
@@ -15,17 +12,10 @@ use Rattle.line.proofs.listing.list_line.Tie as tie
 in-limits-requires : tie.Need-in-limits-requires
 in-limits-requires c κs = search needs
 
-in-limits-requires-2 : tie.Need-in-limits-requires-2
-in-limits-requires-2 c κs = search needs
-
--- what the test of the limits asks
-tested : (c : tie.After-in-limits2) → (c .before .in-limits .result && c .in-limits2 .result) ≡ (inLimits (c .before .before .args .from) && inLimits (c .before .before .args .to))
-tested c = λ i. c .before .in-limits .ensures i && c .in-limits2 .ensures i
-
 returns : tie.Need-returns
 returns c =
-    let a = c .before .before .before .args in
-    list-coordinate (a .from) (a .to) (now (a .xs)) (now (a .ys)) (no _ _ (tested (c .before)) (c .if1 .taken))
+    let a = c .before .before .args in
+    list-coordinate (a .from) (a .to) (now (a .xs)) (now (a .ys)) (no _ _ (c .before .in-limits .ensures) (c .if1 .taken))
 
 lift-cell-requires : tie.Need-lift-cell-requires
 lift-cell-requires c κs = search needs
@@ -45,9 +35,9 @@ returns-2 c =
     let second = course-at .before in
     let first = second .before in
     let limited = first .before in
-    let a = limited .before .before .before .args in
+    let a = limited .before .before .args in
     list-room (a .from) (a .to) (first .lift-cell .result) (second .lift-cell2 .result) (course-at .course-of .result)
-    (yes _ _ (tested (limited .before)) (limited .if1 .left)) (first .lift-cell .ensures) (second .lift-cell2 .ensures) (course-at .course-of .ensures)
+    (yes _ _ (limited .before .in-limits .ensures) (limited .if1 .left)) (first .lift-cell .ensures) (second .lift-cell2 .ensures) (course-at .course-of .ensures)
     (now (a .xs)) (now (a .ys)) (no _ _ (c .before .has-room .ensures) (c .if2 .taken))
 
 is-lesser-requires : tie.Need-is-lesser-requires
@@ -59,20 +49,23 @@ runs-at c =
     let second = c .before in
     let first = second .before in
     let limited = first .before in
-    let a = limited .before .before .before .args in
+    let a = limited .before .before .args in
     runs (a .from) (a .to) (first .lift-cell .result) (second .lift-cell2 .result) (c .course-of .result)
-    (yes _ _ (tested (limited .before)) (limited .if1 .left)) (first .lift-cell .ensures) (second .lift-cell2 .ensures) (c .course-of .ensures)
+    (yes _ _ (limited .before .in-limits .ensures) (limited .if1 .left)) (first .lift-cell .ensures) (second .lift-cell2 .ensures) (c .course-of .ensures)
 
 list-course-requires : tie.Need-list-course-requires
 list-course-requires c κs =
     let roomy = c .before .before .before in
     let course-at = roomy .before .before in
-    let a = course-at .before .before .before .before .before .before .args in
+    let a = course-at .before .before .before .before .before .args in
     let room = rooms (course-at .course-of .result .long) (length (now (a .xs))) (length (now (a .ys))) (yes _ _ (roomy .before .has-room .ensures) (roomy .if2 .left)) in
     (runs-at course-at, room .0, room .1)
 
-add-t21 : tie.Need-add-t21
-add-t21 c = omega (arith, runs-at (c .before .before .before .before .before .before .before .before) .limit)
+cast-t12 : tie.Need-cast-t12
+cast-t12 c = search needs
+
+add-t13 : tie.Need-add-t13
+add-t13 c = omega (arith, runs-at (c .before .before .before .before .before .before .before .before) .limit)
 
 same-length : tie.Need-same-length
 same-length c = search needs
@@ -89,9 +82,9 @@ returns-3 c =
     let second = course-at .before in
     let first = second .before in
     let limited = first .before in
-    let a = limited .before .before .before .args in
+    let a = limited .before .before .args in
     list-done (a .from) (a .to) (first .lift-cell .result) (second .lift-cell2 .result) (course-at .course-of .result)
-    (yes _ _ (tested (limited .before)) (limited .if1 .left)) (first .lift-cell .ensures) (second .lift-cell2 .ensures) (course-at .course-of .ensures)
+    (yes _ _ (limited .before .in-limits .ensures) (limited .if1 .left)) (first .lift-cell .ensures) (second .lift-cell2 .ensures) (course-at .course-of .ensures)
     (now (a .xs)) (now (a .ys)) _ _ (ordered .is-lesser .result) (yes _ _ (roomy .before .has-room .ensures) (roomy .if2 .left)) (ordered .is-lesser .ensures)
     (listed .list-course .ensures .0) (listed .list-course .ensures .1)
 
@@ -100,7 +93,6 @@ list-line-spec =
     tie.close
     (tie.spec
     in-limits-requires
-    in-limits-requires-2
     returns
     lift-cell-requires
     lift-cell-requires-2
@@ -109,7 +101,8 @@ list-line-spec =
     returns-2
     is-lesser-requires
     list-course-requires
-    add-t21
+    cast-t12
+    add-t13
     same-length
     same-length-2
     returns-3)

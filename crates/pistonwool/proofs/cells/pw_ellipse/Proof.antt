@@ -1,25 +1,18 @@
 -- `pistonwool::cells::pw_ellipse` meets its contract.
-use mathlib.Core.Path.{ap, _∙_}
-use Prim.Native.Nat.{ℕ}
-use mathlib.Core.List.{List}
-use denote.Ref.{now}
-use lib.ListN.{length}
-use Rattle.sheet.specs.Reply.{Answer}
-use Rattle.sheet.specs.Sheet.{paint}
-use Rattle.sheet.specs.declared.Cell.{Cell}
-use Rattle.ring.specs.Ring.{onEllipse}
-use Rattle.ring.specs.Answer.{ellipseAnswer}
-use Rattle.pistonwool.specs.Told.{shapeOf}
-use Rattle.pistonwool.proofs.Told.{cell-back, left, number-told}
 use borrow.Author.Needs.{needs}
+use Rattle.sheet.proofs.Draws.{draws-as}
+use Rattle.ring.specs.Draw.{ellipseDrawing}
+use Rattle.pistonwool.specs.Told.{shapeOf}
+use Rattle.pistonwool.proofs.Forms.{ring-tells}
+use Rattle.pistonwool.proofs.Told.{cell-back, draws-number}
 use Rattle.pistonwool.proofs.cells.pw_ellipse.Statement.{statement}
 use Rattle.pistonwool.proofs.cells.pw_ellipse.Tie as tie
 
 draw-ellipse-requires : tie.Need-draw-ellipse-requires
 draw-ellipse-requires c κs = search needs
 
-number-of-drawn-requires : tie.Need-number-of-drawn-requires
-number-of-drawn-requires c κs = search needs
+number-requires : tie.Need-number-requires
+number-requires c κs = search needs
 
 same-length : tie.Need-same-length
 same-length c = search needs
@@ -29,15 +22,10 @@ returns c =
     let called = c .before .before .before in
     let start = called .before .before .before in
     let a = start .args in
-    let f = start .fits in
-    let k = shapeOf (a .width) (a .height) in
-    let n = length (now (a .sheet)) in
-    let e = cell-back (a .x) (a .y) (f .x) (f .y) in
-    let answer : Cell → Answer = λ d. ellipseAnswer k n d (a .a) (a .b) in
-    let drawn : Cell → List ℕ = λ d. paint k (a .ink) (onEllipse d (a .a) (a .b)) (now (a .sheet)) in
-    let told = called .draw-ellipse .ensures in
-    (number-told _ _ (told .0 ∙ ap answer e) _ (c .number-of-drawn .ensures), left answer drawn _ _ e _ _ (told .1))
+    let centre = cell-back (a .x) (a .y) (start .fits .x) (start .fits .y) in
+    draws-number _ _ _ _ _
+    (draws-as _ _ _ _ _ (λ i. ellipseDrawing (shapeOf (a .width) (a .height)) (a .ink) (centre i) (a .a) (a .b)) (called .draw-ellipse .ensures))
+    (ring-tells _ _ _ _) (c .number .ensures)
 
 pub pw-ellipse-spec : {M : Type 1} → statement M
-pw-ellipse-spec =
-    tie.close (tie.spec draw-ellipse-requires number-of-drawn-requires same-length returns)
+pw-ellipse-spec = tie.close (tie.spec draw-ellipse-requires number-requires same-length returns)

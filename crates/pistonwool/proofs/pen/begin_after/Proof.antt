@@ -1,11 +1,10 @@
 -- `pistonwool::pen::begin_after` meets its contract.
-use mathlib.Core.Path.{_≡_, sym, ap, _∙_}
+use mathlib.Core.Path.{_≡_, sym, ap, ap₂, _∙_}
 use borrow.Author.Needs.{needs}
-use Rattle.sheet.specs.declared.Cell.{Cell}
 use Rattle.line.specs.Pen.{toldBegun, beginAnswer}
 use Rattle.line.specs.declared.pen.Begun.the-variants as begun
-use Rattle.survey.specs.Metres.{cell}
-use Rattle.pistonwool.proofs.Told.{cell-back, both}
+use Rattle.sheet.specs.Sheet.{cell}
+use Rattle.pistonwool.proofs.Told.{cell-back}
 use Rattle.pistonwool.proofs.Pens.{begins}
 use Rattle.pistonwool.proofs.pen.begin_after.Statement.{statement}
 use Rattle.pistonwool.proofs.pen.begin_after.Tie as tie
@@ -27,7 +26,7 @@ told : (c : tie.After-begin) → toldBegun (c .begin .result) ≡ beginAnswer (c
 told c =
     let a = c .before .args in
     let f = c .before .fits in
-    c .begin .ensures ∙ ap (λ (l : Cell × Cell). beginAnswer (l .0) (l .1)) (both (cell-back (a .x0) (a .y0) (f .x0) (f .y0)) (cell-back (a .x1) (a .y1) (f .x1) (f .y1)))
+    c .begin .ensures ∙ ap₂ beginAnswer (cell-back (a .x0) (a .y0) (f .x0) (f .y0)) (cell-back (a .x1) (a .y1) (f .x1) (f .y1))
 
 returns : tie.Need-returns
 returns c =

@@ -5,7 +5,7 @@ use mir.Val.{toZ, ofZ}
 use denote.Ref.{now}
 use borrow.Author.Needs.{needs}
 use Rattle.line.specs.declared.pen.Asked.{Asked}
-use Rattle.survey.specs.Metres.{cell}
+use Rattle.sheet.specs.Sheet.{cell}
 use Rattle.pistonwool.specs.Inner.{askedNumber, askedCell}
 use Rattle.pistonwool.proofs.pen.number_of_asked.Statement.{statement}
 use Rattle.pistonwool.proofs.pen.number_of_asked.Tie as tie

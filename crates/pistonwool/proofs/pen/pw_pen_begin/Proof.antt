@@ -41,7 +41,7 @@ use denote.Triple.Walked.{says, Stays, stay-ref, stay-none, walkOf, Goes, AllGo,
 use denote.Triple.Clauses.{ensured, lasts}
 use denote.Exit.{yes}
 use Rattle.line.specs.declared.pen.Pen.{Pen}
-use Rattle.survey.specs.Metres.{cell}
+use Rattle.sheet.specs.Sheet.{cell}
 use Rattle.pistonwool.specs.declared.pen.Beginning.{Beginning}
 use Rattle.pistonwool.proofs.Pens.{Begins}
 use Rattle.line.proofs.pen.Pen as T

@@ -36,7 +36,7 @@ use denote.Triple.Clauses.{ensured, lasts}
 use Rattle.line.specs.Pen.{toldAsked, askAnswer, left}
 use Rattle.line.specs.declared.pen.Pen.{Pen}
 use Rattle.line.specs.declared.pen.Asked.{Asked}
-use Rattle.survey.specs.Metres.{cell}
+use Rattle.sheet.specs.Sheet.{cell}
 use Rattle.pistonwool.specs.Inner.{askedNumber, askedCell}
 use Rattle.pistonwool.proofs.Pens.{Asks, asks}
 use Rattle.line.proofs.pen.Pen as T

@@ -4,14 +4,14 @@ use mathlib.Core.Path.{_∙_}
 use native.Mathlib.Omega.{arith}
 use denote.Ref.{now}
 use lib.ListN.{length-set}
-use Rattle.print.specs.Text.{cell}
+use Rattle.print.specs.Text.{characterAt}
 use Rattle.print.proofs.Lines.{cell-long, cell-put, line-ends}
 use Rattle.print.proofs.Writing.{Turns, turns-begin, turns-next}
 use Rattle.print.proofs.text.put_line.Statement.{statement}
 use Rattle.print.proofs.text.put_line.Tie as tie
 
 abbrev Inv-loop : tie.InvT-loop
-Inv-loop out₀ sheet y x₀ out x = Turns out₀ (y * 17) 16 1 (cell sheet y) out x
+Inv-loop out₀ sheet y x₀ out x = Turns out₀ (y * 17) 16 1 (characterAt sheet y) out x
 
 abbrev μ-loop : tie.MeasureT-loop
 μ-loop out₀ sheet y x₀ out x = 16 - x
@@ -19,7 +19,7 @@ abbrev μ-loop : tie.MeasureT-loop
 loop-holds : tie.Need-loop-holds Inv-loop μ-loop
 loop-holds c =
     let a = c .before .before .args in
-    turns-begin (now (a .out)) (a .y * 17) 16 1 (cell (now (a .sheet)) (a .y)) (cell-long (now (a .sheet)) (a .y))
+    turns-begin (now (a .out)) (a .y * 17) 16 1 (characterAt (now (a .sheet)) (a .y)) (cell-long (now (a .sheet)) (a .y))
 
 mul-character : tie.Need-mul-character Inv-loop μ-loop
 mul-character c = omega arith
@@ -52,7 +52,7 @@ loop-again : tie.Need-loop-again Inv-loop μ-loop
 loop-again c =
     let head = c .before .before .before in
     let a = head .before .before .before .args in
-    turns-next (now (a .out)) (a .y * 17) 16 1 (cell (now (a .sheet)) (a .y)) (head .loop .out) (head .loop .x) (head .loop .inv) (omega arith)
+    turns-next (now (a .out)) (a .y * 17) 16 1 (characterAt (now (a .sheet)) (a .y)) (head .loop .out) (head .loop .x) (head .loop .inv) (omega arith)
     (a .y * 17 + head .loop .x)
     (omega arith)
     _

@@ -2,6 +2,7 @@
 use mathlib.Core.Path.{sym}
 use native.Mathlib.Omega.{arith}
 use denote.Ref.{now}
+use Rattle.laws.proofs.Tests.{no, yes}
 use Rattle.print.specs.Text.{picture, refusal, tooLong}
 use Rattle.print.proofs.Lines.{picture-long}
 use Rattle.print.proofs.Told.{text-too-long, text-drawn, text-refused, prints}
@@ -31,8 +32,33 @@ slice-aggregate-draw-file c = search needs
 draw-file-requires : tie.Need-draw-file-requires
 draw-file-requires c κs = search needs
 
-enum-told : tie.Need-enum-told
-enum-told c = search needs
+is-done-requires : tie.Need-is-done-requires
+is-done-requires c κs = search needs
+
+number-requires : tie.Need-number-requires
+number-requires c κs = search needs
+
+value-requires : tie.Need-value-requires
+value-requires c κs = search needs
+
+put-refusal-requires : tie.Need-put-refusal-requires
+put-refusal-requires c κs = search needs
+
+returns-2 : tie.Need-returns-2
+returns-2 c =
+    let value = c .before in
+    let number = value .before in
+    let refused = number .before .before in
+    let asked = refused .before in
+    let drawn = asked .before .before in
+    let small = drawn .before .before in
+    let start = small .before .before in
+    let a = start .args in
+    prints (now (a .file)) (refusal (number .number .result) (value .value .result)) (now (a .out)) _ (c .put-refusal .result)
+    (text-refused (now (a .file)) _ _ (small .if1 .left) (drawn .draw-file .ensures) (number .number .result) (value .value .result)
+    (no _ _ (asked .is-done .ensures) (refused .if2 .taken)) (number .number .ensures) (value .value .ensures))
+    (record { bytes = c .put-refusal .ensures .1 .1; long = c .put-refusal .ensures .0 })
+    (omega (arith, c .put-refusal .ensures .1 .0, start .good))
 
 slice-aggregate-put-picture : tie.Need-slice-aggregate-put-picture
 slice-aggregate-put-picture c = search needs
@@ -40,42 +66,19 @@ slice-aggregate-put-picture c = search needs
 put-picture-requires : tie.Need-put-picture-requires
 put-picture-requires c κs = search needs
 
-enum-known-reply : tie.Need-enum-known-reply
-enum-known-reply c = search needs
-
-number-requires : tie.Need-number-requires
-number-requires c κs = search needs
-
-put-refusal-requires : tie.Need-put-refusal-requires
-put-refusal-requires c κs = search needs
-
-returns-2 : tie.Need-returns-2
-returns-2 c =
-    let reply = c .before .before .before in
-    let drawn = reply .before .before .before in
+returns-3 : tie.Need-returns-3
+returns-3 c =
+    let done = c .before .before .before in
+    let asked = done .before in
+    let drawn = asked .before .before in
     let small = drawn .before .before in
     let start = small .before .before in
     let a = start .args in
     let s = drawn .draw-file .last .0 in
     prints (now (a .file)) (picture s) (now (a .out)) _ 136
-    (text-drawn (now (a .file)) s (drawn .draw-file .result) (reply .enum-told .given .0 .0) (small .if1 .left) (reply .enum-told .given .1) (drawn .draw-file .ensures))
+    (text-drawn (now (a .file)) s _ (small .if1 .left) (drawn .draw-file .ensures) (yes _ _ (asked .is-done .ensures) (done .if2 .left)))
     (record { bytes = c .put-picture .ensures; long = sym (picture-long s) })
     (omega (arith, start .good))
-
-returns-3 : tie.Need-returns-3
-returns-3 c =
-    let number = c .before in
-    let reply = number .before .before .before in
-    let drawn = reply .before .before .before in
-    let small = drawn .before .before in
-    let start = small .before .before in
-    let a = start .args in
-    let q = reply .reply .given .0 .0 in
-    let offset = reply .reply .given .0 .1 .0 in
-    prints (now (a .file)) (refusal (number .number .result) offset) (now (a .out)) _ (c .put-refusal .result)
-    (text-refused (now (a .file)) (drawn .draw-file .result) q offset (number .number .result) (small .if1 .left) (reply .reply .given .1) (drawn .draw-file .ensures .0) (number .number .ensures))
-    (record { bytes = c .put-refusal .ensures .1 .1; long = c .put-refusal .ensures .0 })
-    (omega (arith, c .put-refusal .ensures .1 .0, start .good))
 
 pub text-spec : {M : Type 1} → statement M
 text-spec =
@@ -86,11 +89,11 @@ text-spec =
     returns
     slice-aggregate-draw-file
     draw-file-requires
-    enum-told
-    slice-aggregate-put-picture
-    put-picture-requires
-    enum-known-reply
+    is-done-requires
     number-requires
+    value-requires
     put-refusal-requires
     returns-2
+    slice-aggregate-put-picture
+    put-picture-requires
     returns-3)

@@ -10,11 +10,11 @@ use borrow.Author.Needs.{needs}
 use Rattle.line.proofs.pen.Pen.next.Statement.{statement}
 use Rattle.line.proofs.pen.Pen.next.Tie as tie
 
-takes-ends-requires : tie.Need-takes-ends-requires
-takes-ends-requires c κs = search needs
+in-limits-requires : tie.Need-in-limits-requires
+in-limits-requires c κs = search needs
 
 returns : tie.Need-returns
-returns c = let p = c .before .before .before .before .args .self in finishes p (out-of-limits p (no _ _ (c .before .takes-ends .ensures) (c .if1 .taken)))
+returns c = let p = c .before .before .before .before .args .self in finishes p (out-of-limits p (no _ _ (c .before .in-limits .ensures) (c .if1 .taken)))
 
 lift-cell-requires : tie.Need-lift-cell-requires
 lift-cell-requires c κs = search needs
@@ -31,7 +31,7 @@ module _ (c : tie.After-course-of) where
   asked = c .before .before .before .before .before .before .before .args .self
 
   taken : Takes (asked .from) (asked .to)
-  taken = let tested = c .before .before .before in yes _ _ (tested .before .takes-ends .ensures) (tested .if1 .left)
+  taken = let tested = c .before .before .before in yes _ _ (tested .before .in-limits .ensures) (tested .if1 .left)
 
   course : Courses (asked .from) (asked .to) (c .before .before .lift-cell .result) (c .before .lift-cell2 .result) (c .course-of .result)
   course = courses _ _ _ _ _ taken (c .before .before .lift-cell .ensures) (c .before .lift-cell2 .ensures) (c .course-of .ensures)
@@ -63,7 +63,7 @@ pub next-spec : {M : Type 1} → statement M
 next-spec =
     tie.close
     (tie.spec
-    takes-ends-requires
+    in-limits-requires
     returns
     lift-cell-requires
     lift-cell-requires-2

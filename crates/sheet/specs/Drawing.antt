@@ -1,0 +1,43 @@
+-- A drawing, what every drawing promises, and the smallest one: marking a cell.
+use Prim.Native.Nat.{ℕ}
+use mathlib.Core.Path.{_≡_}
+use mathlib.Core.List.{List, [], _∷_}
+use mathlib.Core.Bool.{Bool}
+use lib.ListN.{length}
+use Rattle.sheet.specs.Sheet.{fits, inLimits, paint, isCell}
+use Rattle.sheet.specs.Reply.{Answer, done, unless, settled}
+use Rattle.sheet.specs.declared.Cell.{Cell}
+use Rattle.sheet.specs.declared.Shape.{Shape}
+use Rattle.sheet.specs.declared.Refusal.the-variants.{Size, Coordinate}
+
+-- a figure in an ink
+pub record Inked : Type 0 where
+  pub ink : ℕ
+  pub figure : Cell → Bool
+
+-- one alone
+abbrev pub only : ℕ → (Cell → Bool) → List Inked
+only ink figure = record { ink = ink; figure = figure } ∷ []
+
+-- Figures are drawn in order, later over earlier.
+abbrev pub paintAll : Shape → List Inked → List ℕ → List ℕ
+paintAll k [] s = s
+paintAll k (f ∷ fs) s = paintAll k fs (paint k (f .ink) (f .figure) s)
+
+-- a sheet's shape, the answer for a slice of n bytes, and the figures
+pub record Drawing : Type 0 where
+  pub shape : Shape
+  pub answer : ℕ → Answer
+  pub figures : List Inked
+
+-- A drawing on lent bytes: the reply is the answer, and the bytes afterwards are painted, or untouched by a refusal.
+pub record Draws (d : Drawing) (lent : List ℕ) (reply : Answer) (bytes : List ℕ) : Type 0 where
+  pub tells : reply ≡ d .answer (length lent)
+  pub leaves : bytes ≡ settled (d .answer (length lent)) (paintAll (d .shape) (d .figures) lent) lent
+
+-- Marking one cell: 1, 2, else 0.
+unfoldable pub markAnswer : Shape → Cell → ℕ → Answer
+markAnswer k c n = unless (fits k n) Size (unless (inLimits c) Coordinate (done []))
+
+abbrev pub markDrawing : Shape → ℕ → Cell → Drawing
+markDrawing k ink c = record { shape = k; answer = markAnswer k c; figures = only ink (isCell c) }
