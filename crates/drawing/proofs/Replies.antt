@@ -54,8 +54,8 @@ far = cellOf 16384 0
 pub number-differs : Differ number Size Coordinate
 number-differs e = let z : _≡_ {A = ℕ} 1 2 = e in omega arith
 
-pub reply-differs : Differ (λ (r : Reply). told r .number) Done (Refused Coordinate)
-reply-differs e = let z : _≡_ {A = ℕ} 0 2 = e in omega arith
+pub reply-number-differs : Differ (λ (r : Reply). told r .number) Done (Refused Coordinate)
+reply-number-differs e = let z : _≡_ {A = ℕ} 0 2 = e in omega arith
 
 pub value-differs : Differ (λ (r : Reply). valueOf (told r)) (Counted 0) (Counted 1)
 value-differs e = let z : _≡_ {A = ℕ} 0 1 = e in omega arith

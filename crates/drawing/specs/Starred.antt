@@ -14,7 +14,8 @@ use Rattle.sheet.specs.declared.Figure.{Figure}
 use Rattle.sheet.specs.declared.Figure.the-variants.{Circle, Ellipse}
 use Rattle.drawing.specs.Figure.{onFigure}
 
--- a line by its ends and the cells listed; a ring by the cells (x, y) that it is mirrored from, and how many it has; a curve by its control points, s and its points
+-- a line by its ends and the cells listed; a ring by the cells (x, y) that it is mirrored from, and how many it has;
+-- a curve by its control points, s and its points
 pub data Example : Type 0 where
   line : (a b : Cell) → List Cell → Example
   ring : Figure → List Cell → ℕ → Example
