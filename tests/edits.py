@@ -9,7 +9,7 @@ An edit has entries, each with changes of its own:
     refused: proofs/function returns-2             refused: proofs/FILE theorem
 
 A place of refusal is a proof and a step of it (`proofs/draw/walk returns`); where the prover made the proof itself, a
-source file, a function and a step (`src/lib fits returns`, `src/lib Reply::value returns-2`); for a theorem its file and
+source file, a function and a step (`src/lib is_size returns`, `src/lib Reply::value returns-2`); for a theorem its file and
 its name.
 """
 import dataclasses

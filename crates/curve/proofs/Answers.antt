@@ -7,13 +7,14 @@ use native.Mathlib.Omega.{arith}
 use lib.ListN.{length}
 use Rattle.laws.proofs.Below.{any-as}
 use Rattle.laws.proofs.Tests.{halves}
-use Rattle.sheet.specs.Sheet.{fits, inLimits, cellOf, paint, split}
+use Rattle.sheet.specs.Sheet.{inLimits, cellOf, paint, split}
 use Rattle.sheet.specs.Reply.{done}
 use Rattle.sheet.specs.Drawing.{Draws}
-use Rattle.sheet.specs.Inner.{movedCell, unmovedCell}
+use Rattle.sheet.specs.Inner.{movedCell, unmovedCell, fits}
 use Rattle.sheet.specs.declared.Cell.{Cell}
 use Rattle.sheet.specs.declared.Shape.{Shape}
 use Rattle.sheet.proofs.Draws.{draws}
+use Rattle.sheet.proofs.Lent.{if-sheet}
 use Rattle.sheet.proofs.Limits.{LiftedCell, lifted-cell}
 use Rattle.sheet.proofs.Paint.{paint-as}
 use Rattle.line.specs.Rule.{onLine}
@@ -67,4 +68,4 @@ pub curve-done : (k : Shape) (ink : ℕ) (a b c : Cell) (s : ℕ) (sheet t : Lis
     → Draws (curveDrawing k ink (a ∷ b ∷ c ∷ []) s) sheet (done []) t
 unfolding curveAnswer
 curve-done k ink a b c s sheet t e f g u =
-    draws _ sheet [] t (simp (e, f, g)) (u ∙ paint-as k ink _ _ sheet (λ x y v w. pieces-are a b c f s (cellOf x y)))
+    draws _ sheet [] t (simp (if-sheet k (length sheet) e, f, g)) (u ∙ paint-as k ink _ _ sheet (λ x y v w. pieces-are a b c f s (cellOf x y)))

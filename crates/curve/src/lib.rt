@@ -123,8 +123,9 @@ pub fn draw_curve(
 ) -> Reply
     ensures { λ r. ⌜ Draws (curveDrawing shape ink (p0 ∷ p1 ∷ p2 ∷ []) s) (now (sheet .entry)) (told r) (now (sheet .exit)) ⌝ }
 {
-    if !sheet::fits(shape, sheet.len()) {
-        return Reply::Refused(Refusal::Size);
+    let tested = sheet::check(shape, sheet.len());
+    if !tested.is_done() {
+        return tested;
     }
     if !in_limits(p0, p1, p2) {
         return Reply::Refused(Refusal::Coordinate);

@@ -9,14 +9,15 @@ use lib.IntN.{pos}
 use lib.Ieee.{Float}
 use lib.ListN.{length}
 use Rattle.laws.proofs.Tests.{or-l, or-r, or-e, same}
-use Rattle.sheet.specs.Sheet.{fits, inLimits, cell, cellOf, paint, cellsOn}
-use Rattle.sheet.specs.Reply.{Answer, done, refuseAt, unless, settled}
-use Rattle.sheet.specs.Drawing.{only, paintAll, Draws}
+use Rattle.sheet.specs.Sheet.{inLimits, cell, cellOf, paint, cellsOn}
+use Rattle.sheet.specs.Reply.{Answer, done, unless, settled}
+use Rattle.sheet.specs.Drawing.{only, paintAll, ifSheet, Draws}
 use Rattle.sheet.specs.declared.Cell.{Cell}
 use Rattle.sheet.specs.declared.Shape.{Shape}
 use Rattle.sheet.specs.declared.Figure.{Figure}
-use Rattle.sheet.specs.declared.Refusal.the-variants.{Size, Coordinate}
+use Rattle.sheet.specs.declared.Refusal.the-variants.{Coordinate}
 use Rattle.sheet.specs.declared.Refusal.the-variants as refusal
+use Rattle.sheet.proofs.Lent.{sheet-done}
 use Rattle.sheet.proofs.Paint.{paint-as, paint-none, paint-then}
 use Rattle.line.specs.Rule.{onLine}
 use Rattle.line.specs.Draw.{lineAnswer, lineDrawing}
@@ -31,7 +32,7 @@ use Rattle.survey.specs.declared.InCells.the-variants as cells
 use Rattle.record.specs.File.{Contents, holds, readAll, contentsAnswer, fileAnswer}
 use Rattle.record.specs.declared.types.Record.{Record}
 use Rattle.drawing.specs.Figure.{onFigure}
-use Rattle.drawing.specs.File.{recordsOf, inked, drawFileAnswer, fileDrawing}
+use Rattle.drawing.specs.File.{recordsOf, inked, ofFile, drawFileAnswer, fileDrawing}
 use Rattle.drawing.specs.Metres.{cellsDrawing, metresDrawing}
 use Rattle.drawing.specs.Boundary.{SameFigure, Named, AllNamed, SameBoundary, InTurn}
 
@@ -44,7 +45,7 @@ unfolding lineAnswer
 line-drawing-either k ink a b =
     λ i. record {
       shape = k;
-      answer = λ (n : ℕ). unless (fits k n) Size (unless (and-comm (inLimits a) (inLimits b) i) Coordinate (done (pos (cellsOn k (line-either a b i)) ∷ [])));
+      answer = λ (n : ℕ). ifSheet k n (unless (and-comm (inLimits a) (inLimits b) i) Coordinate (done (pos (cellsOn k (line-either a b i)) ∷ [])));
       figures = only ink (line-either a b i);
     }
 
@@ -127,31 +128,27 @@ module _ (k : Shape) where
 
   -- what a file of which no record is refused tells and leaves
   module _ (file lent : List ℕ) (rs : List Record) (e : readAll file ≡ holds rs) (a : Answer) (s : List ℕ) (h : Draws (fileDrawing k file) lent a s) where
-    told-by : a ≡ cond (fits k (length lent)) (done (pos (length rs) ∷ [])) (refuseAt Size 0)
+    told-by : a ≡ ofFile (ifSheet k (length lent) (done (pos (length rs) ∷ [])))
     unfolding drawFileAnswer fileAnswer
-    told-by = h .tells ∙ ap (λ (c : Contents). cond (fits k (length lent)) (contentsAnswer c) (refuseAt Size 0)) e
+    told-by = h .tells ∙ ap (λ (c : Contents). ofFile (ifSheet k (length lent) (contentsAnswer c))) e
 
-    left-by : s ≡ cond (fits k (length lent)) (paintRecords rs lent) lent
+    left-by : s ≡ settled (ifSheet k (length lent) (done [])) (paintRecords rs lent) lent
     unfolding drawFileAnswer fileAnswer
     left-by =
         h .leaves
-        ∙ (λ i. settled (cond (fits k (length lent)) (contentsAnswer (e i)) (refuseAt Size 0)) (paintRecords (recordsOf (e i)) lent) lent)
-        ∙ by (fits k (length lent))
-      where
-        by : (t : Bool) → settled (cond t (contentsAnswer (holds rs)) (refuseAt Size 0)) (paintRecords rs lent) lent ≡ cond t (paintRecords rs lent) lent
-        by true = refl
-        by false = refl
+        ∙ (λ i. settled (ofFile (ifSheet k (length lent) (contentsAnswer (e i)))) (paintRecords (recordsOf (e i)) lent) lent)
+        ∙ ap (λ (t : Bool). cond t (paintRecords rs lent) lent) (sheet-done k (length lent) (pos (length rs) ∷ []) [])
 
   -- Two files, none of whose records is refused, on sheets that were alike:
   module _ (file other lent : List ℕ) (rs qs : List Record) (e : readAll file ≡ holds rs) (f : readAll other ≡ holds qs)
       (a b : Answer) (s t : List ℕ) (h : Draws (fileDrawing k file) lent a s) (g : Draws (fileDrawing k other) lent b t) where
     -- where painting their records comes to the same, the bytes left are the same,
     pub files-left : paintRecords rs lent ≡ paintRecords qs lent → s ≡ t
-    files-left p = left-by file lent rs e a s h ∙ ap (λ (d : List ℕ). cond (fits k (length lent)) d lent) p ∙ sym (left-by other lent qs f b t g)
+    files-left p = left-by file lent rs e a s h ∙ ap (λ (d : List ℕ). settled (ifSheet k (length lent) (done [])) d lent) p ∙ sym (left-by other lent qs f b t g)
 
     -- and with as many records the replies are equal.
     pub files-told : length rs ≡ length qs → a ≡ b
     files-told l =
         told-by file lent rs e a s h
-        ∙ ap (λ (n : ℕ). cond (fits k (length lent)) (done (pos n ∷ [])) (refuseAt Size 0)) l
+        ∙ ap (λ (n : ℕ). ofFile (ifSheet k (length lent) (done (pos n ∷ [])))) l
         ∙ sym (told-by other lent qs f b t g)

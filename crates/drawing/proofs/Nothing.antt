@@ -8,9 +8,9 @@ use lib.ListN.{getD}
 use lib.IntN.{ℤ, pos, natAbs}
 use lib.Ieee.{Float, binary64, ofInt, sub, div, le, lt}
 use Rattle.laws.specs.Below.{any}
-use Rattle.sheet.specs.Sheet.{fits, onSheet, cellAt, held, byPlace, paint, coordinate, inLimits, isCell, cellOf, semiAxis}
+use Rattle.sheet.specs.Sheet.{onSheet, cellAt, held, byPlace, paint, coordinate, inLimits, isCell, cellOf, semiAxis}
 use Rattle.sheet.specs.Reply.{Answer}
-use Rattle.sheet.specs.Drawing.{Draws}
+use Rattle.sheet.specs.Drawing.{ifSheet, Draws}
 use Rattle.sheet.specs.declared.Shape.{Shape}
 use Rattle.sheet.specs.declared.Figure.{Figure}
 use Rattle.sheet.specs.declared.Figure.the-variants.{Line, Circle, Ellipse, Curve}
@@ -51,19 +51,19 @@ abbrev DrawsNothing : Figure → Type 0
 DrawsNothing f = (a : Answer) → Draws (figureDrawing small 1 f) lent a lent → ⊥
 
 pub line-draws : DrawsNothing (Line (cellOf 0 0) (cellOf 0 0))
-unfolding paint byPlace held onSheet cellAt lineAnswer fits inLimits coordinate onLine nth fromLesser lesser rise isCell any
+unfolding paint byPlace held onSheet cellAt lineAnswer ifSheet inLimits coordinate onLine nth fromLesser lesser rise isCell any
 line-draws a h = nothing (h .leaves)
 
 pub circle-draws : DrawsNothing (Circle (cellOf 0 0) 0)
-unfolding paint byPlace held onSheet cellAt ringAnswer fits inLimits coordinate around circleRule inEighth
+unfolding paint byPlace held onSheet cellAt ringAnswer ifSheet inLimits coordinate around circleRule inEighth
 circle-draws a h = nothing (h .leaves)
 
 pub ellipse-draws : DrawsNothing (Ellipse (cellOf 1 0) 1 1)
-unfolding paint byPlace held onSheet cellAt ringAnswer semiAxis fits inLimits coordinate around ellipseRule inColumn slope nearest
+unfolding paint byPlace held onSheet cellAt ringAnswer semiAxis ifSheet inLimits coordinate around ellipseRule inColumn slope nearest
 ellipse-draws a h = nothing (h .leaves)
 
 pub curve-draws : DrawsNothing (Curve (cellOf 0 0) (cellOf 0 0) (cellOf 0 0) 0)
-unfolding paint byPlace held onSheet cellAt curveAnswer allInLimits fits inLimits coordinate onCurve pointAt coordinateAt blend onLine nth fromLesser lesser rise isCell any
+unfolding paint byPlace held onSheet cellAt curveAnswer allInLimits ifSheet inLimits coordinate onCurve pointAt coordinateAt blend onLine nth fromLesser lesser rise isCell any
 curve-draws a h = nothing (h .leaves)
 
 -- and the listing of its one cell (0,0) leaves 0 in a list that was lent as 1
@@ -76,7 +76,7 @@ abbrev oneLine : List ℕ
 oneLine = 11 ∷ 0 ∷ 1 ∷ 0 ∷ 1 ∷ 0 ∷ 0 ∷ 0 ∷ 0 ∷ 0 ∷ 0 ∷ 0 ∷ 0 ∷ []
 
 pub file-draws : (a : Answer) → Draws (fileDrawing small oneLine) lent a lent → ⊥
-unfolding drawFileAnswer fileAnswer readAll readFrom readIn readAt foundAt kindFound rowFound limitedFrom valuesFrom table lineRow signed paint byPlace held onSheet cellAt fits inLimits coordinate onLine nth fromLesser lesser rise isCell any
+unfolding drawFileAnswer fileAnswer readAll readFrom readIn readAt foundAt kindFound rowFound limitedFrom valuesFrom table lineRow signed paint byPlace held onSheet cellAt ifSheet inLimits coordinate onLine nth fromLesser lesser rise isCell any
 file-draws a h = nothing (h .leaves)
 
 -- in metres: a survey with its origins at 0.0 and cells of 1.0

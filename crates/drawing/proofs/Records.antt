@@ -1,16 +1,19 @@
 -- Drawing the records of a file: the loop of `draw_records`, and the returns of `draw_file`.
 use Prim.Native.Nat.{ℕ, _≤_}
 use mathlib.Core.Path.{_≡_, refl, sym, subst, ap, _∙_}
-use mathlib.Core.List.{List, _∷_, map}
-use mathlib.Core.Bool.{true, false, true≢false}
+use mathlib.Core.List.{List, [], _∷_, map}
+use mathlib.Core.Bool.{Bool, true, false, not, true≢false}
 use native.Mathlib.Omega.{arith}
 use lib.ListN.{length}
-use Rattle.sheet.specs.Sheet.{fits, paint}
-use Rattle.sheet.specs.Reply.{Answer, isDone}
-use Rattle.sheet.specs.Drawing.{paintAll, Draws}
+use Rattle.laws.proofs.Tests.{no}
+use Rattle.sheet.specs.Sheet.{paint}
+use Rattle.sheet.specs.Reply.{Answer, done, isDone}
+use Rattle.sheet.specs.Drawing.{paintAll, ifSheet, Draws}
+use Rattle.sheet.specs.Inner.{fits}
 use Rattle.sheet.specs.declared.Shape.{Shape}
 use Rattle.sheet.specs.declared.Refusal.{Refusal}
 use Rattle.sheet.proofs.Draws.{keeps, paints}
+use Rattle.sheet.proofs.Lent.{if-sheet, no-sheet}
 use Rattle.sheet.proofs.Paint.{paint-length}
 use Rattle.sheet.proofs.Unique.{number-not-0}
 use Rattle.record.specs.Reading.{readAt}
@@ -21,7 +24,7 @@ use Rattle.record.specs.declared.types.Read.the-variants as read
 use Rattle.record.proofs.Onward.{NoRecord, never, from-record, from-end, from-refusal}
 use Rattle.record.proofs.Stands.{stands}
 use Rattle.drawing.specs.Figure.{onFigure, figureDrawing}
-use Rattle.drawing.specs.File.{recordsOf, inked, figuresIn, drawFileAnswer, fileDrawing}
+use Rattle.drawing.specs.File.{recordsOf, inked, figuresIn, ofFile, drawFileAnswer, fileDrawing}
 use Rattle.drawing.proofs.Figures.{figure-painted}
 
 -- no record is refused
@@ -79,11 +82,27 @@ module _ (k : Shape) (s sheet₀ sheet : List ℕ) (at : ℕ) (h : DrawsOn k s s
   closes read.End e n = sym (ap (λ (c : Contents). painted k c sheet) (from-end s at e)) ∙ h .makes
   closes (read.Refused q o) e n = absurd (not-refused q o (subst Accepted (from-refusal s at q o e) (h .accepted)))
 
+-- a file's answer has its one value already
+contents-valued : (c : Contents) → ofFile (contentsAnswer c) ≡ contentsAnswer c
+contents-valued (holds rs) = refl
+contents-valued (refuses q at) = refl
+
+pub file-valued : (s : List ℕ) → ofFile (fileAnswer s) ≡ fileAnswer s
+unfolding fileAnswer
+file-valued s = contents-valued (readAll s)
+
+-- the drawing of a file that is refused for its sheet, by what the test told
+pub no-sheet-file : (k : Shape) (s sheet : List ℕ) (a b : Answer) (r : Bool) → a ≡ ifSheet k (length sheet) (done []) → r ≡ isDone a → not r ≡ true
+    → b ≡ ofFile a → Draws (fileDrawing k s) sheet b sheet
+unfolding drawFileAnswer
+no-sheet-file k s sheet a b r tested asked e told =
+    keeps _ sheet b (ap isDone told ∙ no r (isDone a) asked e) (ap ofFile (no-sheet k (length sheet) a r tested asked e (fileAnswer s)) ∙ sym told)
+
 -- the drawing of a file on a sheet that fits, by the reply of reading it
 module _ (k : Shape) (s sheet : List ℕ) (fit : fits k (length sheet) ≡ true) (a : Answer) (e : a ≡ fileAnswer s) where
   answered : drawFileAnswer k s (length sheet) ≡ a
   unfolding drawFileAnswer
-  answered = simp fit (sym e)
+  answered = ap ofFile (if-sheet k (length sheet) fit (fileAnswer s)) ∙ file-valued s ∙ sym e
 
   pub file-refused : isDone (fileAnswer s) ≡ false → Draws (fileDrawing k s) sheet a sheet
   file-refused f = keeps _ sheet a (ap isDone e ∙ f) answered

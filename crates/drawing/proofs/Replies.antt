@@ -9,9 +9,9 @@ use native.Mathlib.Omega.{arith}
 use lib.ListN.{length}
 use lib.IntN.{pos, natAbs}
 use lib.Ieee.{Float, nan, ofInt, sub, div, le, lt}
-use Rattle.sheet.specs.Sheet.{fits, coordinate, inLimits, cellOf, radius, semiAxis, split}
-use Rattle.sheet.specs.Reply.{Answer, number, told, isDone, valueOf}
-use Rattle.sheet.specs.Drawing.{markAnswer}
+use Rattle.sheet.specs.Sheet.{coordinate, inLimits, cellOf, radius, semiAxis, split}
+use Rattle.sheet.specs.Reply.{Answer, number, done, told, isDone, valueOf}
+use Rattle.sheet.specs.Drawing.{ifSheet, markAnswer}
 use Rattle.sheet.specs.Inner.{moved, lowered, movedCell, loweredCell}
 use Rattle.sheet.specs.declared.Cell.{Cell}
 use Rattle.sheet.specs.declared.Spot.{Spot}
@@ -77,9 +77,9 @@ semi-axis-differs e = true≢false e
 pub split-differs : Differ split 0 7
 split-differs e = true≢false e
 
-pub fits-differs : Differ (fits small) 1 0
-unfolding fits
-fits-differs e = true≢false e
+pub sheet-both : Both (λ (n : ℕ). ifSheet small n (done [])) 1 0
+unfolding ifSheet
+sheet-both = record { done = refl; refused = refl }
 
 pub lift-differs : Differ moved (pos 0) (pos 16384)
 unfolding moved coordinate
@@ -100,12 +100,12 @@ unfolding inLimits coordinate
 in-limits-differs e = true≢false e
 
 pub mark-both : Both (λ (c : Cell). markAnswer small c 1) origin far
-unfolding markAnswer fits inLimits coordinate
+unfolding markAnswer ifSheet inLimits coordinate
 mark-both = record { done = refl; refused = refl }
 
 -- of line: a second end outside the limits; a pen before its only cell and after it
 pub line-both : Both (λ (b : Cell). lineAnswer small origin b 1) origin far
-unfolding lineAnswer fits inLimits coordinate
+unfolding lineAnswer ifSheet inLimits coordinate
 line-both = record { done = refl; refused = refl }
 
 pub list-both : Both (listAnswer 1 1 origin) origin far
@@ -131,16 +131,16 @@ has-cell-differs e = true≢false e
 
 -- of ring: a radius too great, a semi-axis of 0
 pub circle-both : Both (λ (r : ℕ). circleDrawing small 1 origin r .answer 1) 0 16384
-unfolding ringAnswer fits inLimits coordinate
+unfolding ringAnswer ifSheet inLimits coordinate
 circle-both = record { done = refl; refused = refl }
 
 pub ellipse-both : Both (λ (b : ℕ). ellipseDrawing small 1 origin 1 b .answer 1) 1 0
-unfolding ringAnswer semiAxis fits inLimits coordinate
+unfolding ringAnswer semiAxis ifSheet inLimits coordinate
 ellipse-both = record { done = refl; refused = refl }
 
 -- of curve: s above 6
 pub curve-both : Both (λ (s : ℕ). curveAnswer small (origin ∷ origin ∷ origin ∷ []) s 1) 0 7
-unfolding curveAnswer allInLimits fits inLimits coordinate
+unfolding curveAnswer allInLimits ifSheet inLimits coordinate
 curve-both = record { done = refl; refused = refl }
 
 -- of survey: a survey whose cell size is 0.0; what is divided by it is not a number
@@ -201,11 +201,11 @@ check-both = record { done = refl; refused = refl }
 
 -- of drawing: a line of one cell and one with an end outside the limits; the same two files; the same two surveys
 pub figure-both : Both (λ (f : Figure). figureDrawing small 1 f .answer 1) (Line origin origin) (Line origin far)
-unfolding lineAnswer fits inLimits coordinate
+unfolding lineAnswer ifSheet inLimits coordinate
 figure-both = record { done = refl; refused = refl }
 
 pub file-both : Both (λ (file : List ℕ). drawFileAnswer small file 1) [] lone
-unfolding drawFileAnswer fileAnswer readAll readFrom readIn readAt foundAt fits
+unfolding drawFileAnswer fileAnswer readAll readFrom readIn readAt foundAt ifSheet
 file-both = record { done = refl; refused = refl }
 
 abbrev answerOf : InCells → Answer
@@ -215,13 +215,13 @@ abbrev answerIn : Metres → Survey → Answer
 answerIn f s = metresDrawing small 1 s f .answer 1
 
 pub line-metres-both : Both (answerIn (metres.Line (whole 0) (whole 0) (whole 0) (whole 0))) home flat
-unfolding lineAnswer fits inLimits coordinate
+unfolding lineAnswer ifSheet inLimits coordinate
 line-metres-both = in-cells-both answerOf _ _ line-cells refl refl
 
 pub circle-metres-both : Both (answerIn (metres.Circle (whole 0) (whole 0) (whole 0))) home flat
-unfolding ringAnswer fits inLimits coordinate
+unfolding ringAnswer ifSheet inLimits coordinate
 circle-metres-both = in-cells-both answerOf _ _ circle-cells refl refl
 
 pub ellipse-metres-both : Both (answerIn (metres.Ellipse (whole 1) (whole 0) (whole 1) (whole 1))) home flat
-unfolding ringAnswer semiAxis fits inLimits coordinate
+unfolding ringAnswer semiAxis ifSheet inLimits coordinate
 ellipse-metres-both = in-cells-both answerOf _ _ ellipse-cells refl refl

@@ -2,14 +2,13 @@
 ghost use mathlib.Core.Path.{_≡_};
 ghost use mathlib.Core.Bool.{true};
 ghost use lib.ListN.{length};
-ghost use Rattle.sheet.specs.Sheet.{fits};
 ghost use Rattle.sheet.specs.Reply.{told, isDone};
 ghost use Rattle.sheet.specs.Drawing.{paintAll, Draws};
+ghost use Rattle.sheet.specs.Inner.{fits};
 ghost use Rattle.record.specs.File.{fileAnswer};
-ghost use Rattle.drawing.specs.File.{figuresIn, fileDrawing};
+ghost use Rattle.drawing.specs.File.{figuresIn, ofFile, fileDrawing};
 use crate::figure::draw_figure;
 use record::Read;
-use sheet::Refusal;
 use sheet::Reply;
 use sheet::Shape;
 
@@ -30,12 +29,25 @@ fn draw_records(sheet: &mut [u8], shape: Shape, file: &[u8])
     }
 }
 
+// A reply in the form of a file's: with one value, 0 where it has none.
+fn of_file(reply: Reply) -> Reply
+    ensures { λ r. ⌜ told r ≡ ofFile (told reply) ⌝ }
+{
+    match reply {
+        Reply::Done => Reply::Counted(0),
+        Reply::Counted(count) => Reply::Counted(count),
+        Reply::Refused(refusal) => Reply::RefusedAt(refusal, 0),
+        Reply::RefusedAt(refusal, offset) => Reply::RefusedAt(refusal, offset),
+    }
+}
+
 // Draws a whole file: 0 with its number of records, or a refusal with its offset.
 pub fn draw_file(sheet: &mut [u8], shape: Shape, file: &[u8]) -> Reply
     ensures { λ r. ⌜ Draws (fileDrawing shape (now (file .entry))) (now (sheet .entry)) (told r) (now (sheet .exit)) ⌝ }
 {
-    if !sheet::fits(shape, sheet.len()) {
-        return Reply::RefusedAt(Refusal::Size, 0);
+    let tested = sheet::check(shape, sheet.len());
+    if !tested.is_done() {
+        return of_file(tested);
     }
     let reply = record::check(file);
     if !reply.is_done() {

@@ -3,7 +3,6 @@ ghost use Rattle.sheet.specs.Reply.{told};
 ghost use Rattle.sheet.specs.Drawing.{Draws};
 ghost use Rattle.drawing.specs.Metres.{metresDrawing};
 use crate::figure::draw_figure;
-use sheet::Refusal;
 use sheet::Reply;
 use sheet::Shape;
 use survey::InCells;
@@ -14,8 +13,9 @@ use survey::Survey;
 pub fn draw_metres(sheet: &mut [u8], shape: Shape, ink: u8, survey: Survey, figure: Metres) -> Reply
     ensures { λ r. ⌜ Draws (metresDrawing shape ink survey figure) (now (sheet .entry)) (told r) (now (sheet .exit)) ⌝ }
 {
-    if !sheet::fits(shape, sheet.len()) {
-        return Reply::Refused(Refusal::Size);
+    let tested = sheet::check(shape, sheet.len());
+    if !tested.is_done() {
+        return tested;
     }
     match survey::to_cells(survey, figure) {
         InCells::Figure(figure) => draw_figure(sheet, shape, ink, figure),

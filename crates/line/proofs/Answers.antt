@@ -8,15 +8,16 @@ use lib.ListN.{length}
 use lib.IntN.{pos}
 use Rattle.laws.specs.Below.{any}
 use Rattle.laws.proofs.Below.{any-as}
-use Rattle.sheet.specs.Sheet.{fits, inLimits, cellOf, isCell, paint, cellsOn}
+use Rattle.sheet.specs.Sheet.{inLimits, cellOf, isCell, paint, cellsOn}
 use Rattle.sheet.specs.Reply.{Answer, done, isDone}
 use Rattle.sheet.specs.Drawing.{Draws}
-use Rattle.sheet.specs.Inner.{movedCell}
+use Rattle.sheet.specs.Inner.{movedCell, fits}
 use Rattle.sheet.specs.declared.Cell.{Cell}
 use Rattle.sheet.specs.declared.Shape.{Shape}
 use Rattle.sheet.specs.declared.Spot.{Spot}
 use Rattle.sheet.proofs.Count.{cells-as}
 use Rattle.sheet.proofs.Draws.{draws, drawn}
+use Rattle.sheet.proofs.Lent.{if-sheet}
 use Rattle.sheet.proofs.Limits.{LiftedCell}
 use Rattle.sheet.proofs.Paint.{paint-as}
 use Rattle.line.specs.Rule.{long, nth, onLine}
@@ -37,7 +38,7 @@ line-cells a b p q P Q d =
 module _ (k : Shape) (a b : Cell) where
   line-inside : (n : ℕ) → fits k n ≡ true → (inLimits a && inLimits b) ≡ true → lineAnswer k a b n ≡ done (pos (cellsOn k (onLine a b)) ∷ [])
   unfolding lineAnswer
-  line-inside n e f = simp (e, f)
+  line-inside n e f = simp (if-sheet k n e, f)
 
   pub line-drawn : (ink : ℕ) (s t : List ℕ) (r : Answer) → fits k (length s) ≡ true → inLimits a ≡ true → inLimits b ≡ true
       → Draws (lineDrawing k ink a b) s r t → t ≡ paint k ink (onLine a b) s

@@ -259,8 +259,9 @@ fn run(sheet: &mut [u8], shape: Shape, ink: u8, course: Course) -> u32
 pub fn draw_line(sheet: &mut [u8], shape: Shape, ink: u8, from: Cell, to: Cell) -> Reply
     ensures { λ r. ⌜ Draws (lineDrawing shape ink from to) (now (sheet .entry)) (told r) (now (sheet .exit)) ⌝ }
 {
-    if !sheet::fits(shape, sheet.len()) {
-        return Reply::Refused(Refusal::Size);
+    let tested = sheet::check(shape, sheet.len());
+    if !tested.is_done() {
+        return tested;
     }
     if !in_limits(from, to) {
         return Reply::Refused(Refusal::Coordinate);

@@ -7,12 +7,12 @@ use native.Mathlib.Omega.{arith}
 use lib.Dec.{leb}
 use lib.IntN.{ℤ}
 use lib.Ieee.{Float}
-use Rattle.sheet.specs.Sheet.{cell, fits, inLimits, radius, semiAxis, split, cellsOn}
+use Rattle.sheet.specs.Sheet.{cell, inLimits, radius, semiAxis, split, cellsOn}
 use Rattle.sheet.specs.declared.Cell.{Cell}
 use Rattle.sheet.specs.declared.Shape.{Shape}
 use Rattle.sheet.specs.declared.Figure.{Figure}
 use Rattle.sheet.specs.declared.Refusal.{Refusal}
-use Rattle.sheet.specs.declared.Refusal.the-variants.{Size, Coordinate, Radius, Pieces, Room}
+use Rattle.sheet.specs.declared.Refusal.the-variants.{Coordinate, Radius, Pieces, Room}
 use Rattle.sheet.specs.declared.Refusal.the-variants as refusal
 use Rattle.sheet.proofs.Count.{cells-most}
 use Rattle.line.specs.Rule.{long, onLine}
@@ -30,13 +30,13 @@ use Rattle.survey.specs.declared.Metres.the-variants as metres
 use Rattle.survey.specs.declared.InCells.{InCells}
 use Rattle.survey.specs.declared.InCells.the-variants.{Figure as Is, Refused}
 use Rattle.drawing.specs.Metres.{cellsDrawing, metresDrawing}
-use Rattle.pistonwool.proofs.Told.{Tells, unless-tells, None, One}
+use Rattle.pistonwool.proofs.Told.{Tells, unless-tells, sheet-tells, None, One}
 
 -- a line and a listing count cells
 pub line-tells : (k : Shape) (a b : Cell) (n : ℕ) → Tells One (lineAnswer k a b n)
 unfolding lineAnswer
 line-tells k a b n =
-    unless-tells (fits k n) Size _
+    sheet-tells k n _
     (λ e. unless-tells (inLimits a && inLimits b) Coordinate _
     (λ l. Tells.done _ (record { n = cellsOn k (onLine a b); is = refl; small = omega (arith, cells-most k n (onLine a b) e) })))
 
@@ -53,12 +53,12 @@ list-tells n m a b =
 pub ring-tells : (k : Shape) (c : Cell) (limits : Bool) (n : ℕ) → Tells None (ringAnswer k c limits n)
 unfolding ringAnswer
 ring-tells k c limits n =
-    unless-tells (fits k n) Size _ (λ e. unless-tells (inLimits c) Coordinate _ (λ f. unless-tells limits Radius _ (λ g. Tells.done [] refl)))
+    sheet-tells k n _ (λ e. unless-tells (inLimits c) Coordinate _ (λ f. unless-tells limits Radius _ (λ g. Tells.done [] refl)))
 
 pub curve-tells : (k : Shape) (ps : List Cell) (s n : ℕ) → Tells None (curveAnswer k ps s n)
 unfolding curveAnswer
 curve-tells k ps s n =
-    unless-tells (fits k n) Size _ (λ e. unless-tells (allInLimits ps) Coordinate _ (λ f. unless-tells (split s) Pieces _ (λ g. Tells.done [] refl)))
+    sheet-tells k n _ (λ e. unless-tells (allInLimits ps) Coordinate _ (λ f. unless-tells (split s) Pieces _ (λ g. Tells.done [] refl)))
 
 -- in metres they tell what they do in cells, or a refusal
 module _ (k : Shape) (ink n : ℕ) (P : List ℤ → Type 0) where
@@ -66,7 +66,7 @@ module _ (k : Shape) (ink n : ℕ) (P : List ℤ → Type 0) where
     tells : Tells P (cellsDrawing k ink c .answer n)
 
   refuses : (r : Refusal) → TellsIn (Refused r)
-  refuses r = record { tells = unless-tells (fits k n) Size _ (λ e. Tells.refused r) }
+  refuses r = record { tells = sheet-tells k n _ (λ e. Tells.refused r) }
 
   field : (f : Found) (next : ℤ → InCells) → ((z : ℤ) → TellsIn (next z)) → TellsIn (withCell f next)
   field (At z) next h = h z

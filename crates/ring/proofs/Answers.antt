@@ -6,14 +6,15 @@ use mathlib.Core.Bool.{Bool, true, _&&_}
 use lib.ListN.{length}
 use lib.Dec.{T, leb, leb→le}
 use Rattle.laws.proofs.Tests.{and-l, and-r, from-true}
-use Rattle.sheet.specs.Sheet.{fits, inLimits, paint, radius, semiAxis}
+use Rattle.sheet.specs.Sheet.{inLimits, paint, radius, semiAxis}
 use Rattle.sheet.specs.Reply.{done}
 use Rattle.sheet.specs.Drawing.{only, Draws}
-use Rattle.sheet.specs.Inner.{movedCell, unmovedCell}
+use Rattle.sheet.specs.Inner.{movedCell, unmovedCell, fits}
 use Rattle.sheet.specs.declared.Cell.{Cell}
 use Rattle.sheet.specs.declared.Shape.{Shape}
 use Rattle.sheet.specs.declared.Spot.{Spot}
 use Rattle.sheet.proofs.Draws.{draws}
+use Rattle.sheet.proofs.Lent.{if-sheet}
 use Rattle.sheet.proofs.Limits.{lifted-cell}
 use Rattle.ring.specs.Ring.{around}
 use Rattle.ring.specs.Draw.{ringAnswer}
@@ -25,7 +26,7 @@ pub ring-done : (k : Shape) (ink : ℕ) (c : Cell) (limits : Bool) (rule : ℕ �
     → Draws (record { shape = k; answer = ringAnswer k c limits; figures = only ink (around c rule) }) s (done []) t
 unfolding ringAnswer
 ring-done k ink c limits rule s t p e f g h q =
-    draws _ s [] t (simp (e, f, g)) (q ∙ ap (λ (d : Cell). paint k ink (around d rule) s) (lifted-cell c p f h .stands))
+    draws _ s [] t (simp (if-sheet k (length s) e, f, g)) (q ∙ ap (λ (d : Cell). paint k ink (around d rule) s) (lifted-cell c p f h .stands))
 
 -- what the inner functions are promised
 pub centred : (c : Cell) (p : Spot) → inLimits c ≡ true → p ≡ movedCell c → Centred p

@@ -134,8 +134,9 @@ fn circle_on(sheet: &mut [u8], shape: Shape, ink: u8, centre: Spot, r: u64)
 pub fn draw_circle(sheet: &mut [u8], shape: Shape, ink: u8, centre: Cell, r: u32) -> Reply
     ensures { λ d. ⌜ Draws (circleDrawing shape ink centre r) (now (sheet .entry)) (told d) (now (sheet .exit)) ⌝ }
 {
-    if !sheet::fits(shape, sheet.len()) {
-        return Reply::Refused(Refusal::Size);
+    let tested = sheet::check(shape, sheet.len());
+    if !tested.is_done() {
+        return tested;
     }
     if !sheet::in_limits(centre) {
         return Reply::Refused(Refusal::Coordinate);
@@ -151,8 +152,9 @@ pub fn draw_circle(sheet: &mut [u8], shape: Shape, ink: u8, centre: Cell, r: u32
 pub fn draw_ellipse(sheet: &mut [u8], shape: Shape, ink: u8, centre: Cell, a: u32, b: u32) -> Reply
     ensures { λ r. ⌜ Draws (ellipseDrawing shape ink centre a b) (now (sheet .entry)) (told r) (now (sheet .exit)) ⌝ }
 {
-    if !sheet::fits(shape, sheet.len()) {
-        return Reply::Refused(Refusal::Size);
+    let tested = sheet::check(shape, sheet.len());
+    if !tested.is_done() {
+        return tested;
     }
     if !sheet::in_limits(centre) {
         return Reply::Refused(Refusal::Coordinate);

@@ -3,14 +3,15 @@ use Prim.Native.Nat.{ℕ, _+_, _≤_, _<_}
 use mathlib.Core.Path.{_≡_, sym, ap, _∙_}
 use mathlib.Core.Bool.{Bool, true, false, _&&_, _||_}
 use native.Mathlib.Omega.{arith}
-use native.Mathlib.Nat.{mul-le-mul}
-use lib.Dec.{T, eqb, leb→le}
+use lib.Dec.{eqb}
 use Rattle.laws.proofs.Below.{count-as, count-most, count-none, count-more}
-use Rattle.laws.proofs.Tests.{and-l, and-r, from-true}
-use Rattle.sheet.specs.Sheet.{size, bytes, fits, place, cellOf, held, isCell, cellsOn}
+use Rattle.laws.proofs.Tests.{halves}
+use Rattle.sheet.specs.Sheet.{sized, bytes, sliced, place, cellOf, held, isCell, cellsOn}
+use Rattle.sheet.specs.Inner.{fits}
 use Rattle.sheet.specs.declared.Cell.{Cell}
 use Rattle.sheet.specs.declared.Shape.{Shape}
 use Rattle.sheet.proofs.Cells.{place-below}
+use Rattle.sheet.proofs.Limits.{sides-most}
 use Rattle.sheet.proofs.Paint.{held-as, held-none, held-then, held-cell, held-one}
 
 module _ (k : Shape) where
@@ -28,10 +29,7 @@ module _ (k : Shape) where
   pub cells-most : (n : ℕ) (f : Cell → Bool) → fits k n ≡ true → cellsOn k f ≤ 16777216
   unfolding cellsOn fits
   cells-most n f e =
-      let t : T (size (k .width) && size (k .height) && eqb n (bytes k)) = from-true (fits k n) e in
-      let w : k .width ≤ 4096 = search (leb→le, and-l, and-r) in
-      let h : k .height ≤ 4096 = search (leb→le, and-l, and-r) in
-      omega (arith, count-most (bytes k) (held k f), mul-le-mul {n₁ = k .width} {m₁ = k .height} {n₂ = 4096} {m₂ = 4096} w h)
+      omega (arith, count-most (bytes k) (held k f), sides-most k (halves (sized k) (sliced k n) e .0))
 
   -- one cell more
   pub cells-more : (f : Cell → Bool) (x y : ℕ) → x < k .width → y < k .height → f (cellOf x y) ≡ false

@@ -7,4 +7,5 @@ pub mod Figures
 pub mod Limits
 pub mod Marks
 pub mod Draws
+pub mod Lent
 pub mod Unique

@@ -1,9 +1,10 @@
 -- The limits, as the code meets them: a slice that fits, a coordinate on the moved plane.
-use Prim.Native.Nat.{ℕ, _+_, _-_, _≤_, _<_}
+use Prim.Native.Nat.{ℕ, _+_, _-_, _*_, _≤_, _<_}
 use mathlib.Core.Path.{_≡_, refl, subst, ap, _∙_}
 use mathlib.Core.List.{List}
 use mathlib.Core.Bool.{true, false, _&&_}
 use native.Mathlib.Omega.{arith}
+use native.Mathlib.Nat.{mul-le-mul}
 use borrow.Author.Tests.{le-leb, eq-eqb}
 use lib.ListN.{length}
 use lib.Dec.{T, eqb, leb→le, eqb→eq}
@@ -15,17 +16,25 @@ use mir.Facts.{toZ-ofZ}
 use Rattle.laws.proofs.Parts.{up, dn}
 use Rattle.laws.proofs.Ints.{le-parts, one-zero, parts, to-≡ℤ, is-leZ, no-leZ}
 use Rattle.laws.proofs.Tests.{and-l, and-r, from-true, halves}
-use Rattle.sheet.specs.Sheet.{size, bytes, fits, coordinate, inLimits, cellOf}
-use Rattle.sheet.specs.Inner.{moved, unmoved, movedCell, unmovedCell, lowered, loweredCell, Moved, Sheet}
+use Rattle.sheet.specs.Sheet.{size, sized, bytes, coordinate, inLimits, cellOf}
+use Rattle.sheet.specs.Inner.{moved, unmoved, movedCell, unmovedCell, lowered, loweredCell, Moved, fits, Sheet}
 use Rattle.sheet.specs.declared.Cell.{Cell}
 use Rattle.sheet.specs.declared.Shape.{Shape}
 use Rattle.sheet.specs.declared.Spot.{Spot}
+
+-- no sheet has more than 4,096 × 4,096 cells
+pub sides-most : (k : Shape) → sized k ≡ true → k .width * k .height ≤ 16777216
+sides-most k e =
+    let t : T (size (k .width) && size (k .height)) = from-true (sized k) e in
+    let w : k .width ≤ 4096 = search (leb→le, and-l, and-r) in
+    let h : k .height ≤ 4096 = search (leb→le, and-l, and-r) in
+    mul-le-mul {n₁ = k .width} {m₁ = k .height} {n₂ = 4096} {m₂ = 4096} w h
 
 -- a slice that fits is a sheet
 pub fits-sheet : (k : Shape) (s : List ℕ) → fits k (length s) ≡ true → Sheet k s
 unfolding fits
 fits-sheet k s e =
-    let t : T (size (k .width) && size (k .height) && eqb (length s) (bytes k)) = from-true (fits k (length s)) e in
+    let t : T ((size (k .width) && size (k .height)) && eqb (length s) (bytes k)) = from-true (fits k (length s)) e in
     record {
       area = search (eqb→eq, and-l, and-r);
       broad = search (leb→le, and-l, and-r);

@@ -4,7 +4,7 @@ use mathlib.Core.Path.{_≡_}
 use mathlib.Core.List.{List, [], _∷_}
 use mathlib.Core.Bool.{Bool}
 use lib.ListN.{length}
-use Rattle.sheet.specs.Sheet.{fits, inLimits, paint, isCell}
+use Rattle.sheet.specs.Sheet.{sized, sliced, inLimits, paint, isCell}
 use Rattle.sheet.specs.Reply.{Answer, done, unless, settled}
 use Rattle.sheet.specs.declared.Cell.{Cell}
 use Rattle.sheet.specs.declared.Shape.{Shape}
@@ -30,6 +30,10 @@ pub record Drawing : Type 0 where
   pub answer : ℕ → Answer
   pub figures : List Inked
 
+-- 1 unless a slice of n bytes is a sheet of the shape, and then what follows: with this every drawing's answer begins
+unfoldable pub ifSheet : Shape → ℕ → Answer → Answer
+ifSheet k n next = unless (sized k) Size (unless (sliced k n) Size next)
+
 -- A drawing on lent bytes: the reply is the answer, and the bytes afterwards are painted, or untouched by a refusal.
 pub record Draws (d : Drawing) (lent : List ℕ) (reply : Answer) (bytes : List ℕ) : Type 0 where
   pub tells : reply ≡ d .answer (length lent)
@@ -37,7 +41,7 @@ pub record Draws (d : Drawing) (lent : List ℕ) (reply : Answer) (bytes : List 
 
 -- Marking one cell: 1, 2, else 0.
 unfoldable pub markAnswer : Shape → Cell → ℕ → Answer
-markAnswer k c n = unless (fits k n) Size (unless (inLimits c) Coordinate (done []))
+markAnswer k c n = ifSheet k n (unless (inLimits c) Coordinate (done []))
 
 abbrev pub markDrawing : Shape → ℕ → Cell → Drawing
 markDrawing k ink c = record { shape = k; answer = markAnswer k c; figures = only ink (isCell c) }

@@ -2,10 +2,10 @@
 use Prim.Native.Nat.{ℕ, _≤_}
 use mathlib.Core.Path.{_≡_}
 use mathlib.Core.List.{List}
-use mathlib.Core.Bool.{cond}
+use mathlib.Core.Bool.{Bool, cond, _&&_}
 use lib.ListN.{length}
 use lib.IntN.{ℤ, pos, natAbs, _+ℤ_, _-ℤ_}
-use Rattle.sheet.specs.Sheet.{coordinate, bytes}
+use Rattle.sheet.specs.Sheet.{sized, bytes, sliced, coordinate}
 use Rattle.sheet.specs.declared.Cell.{Cell}
 use Rattle.sheet.specs.declared.Shape.{Shape}
 use Rattle.sheet.specs.declared.Spot.{Spot}
@@ -38,7 +38,11 @@ pub record Moved (m : ℕ) : Type 0 where
   pub least : 49152 ≤ m
   pub most : m ≤ 81919
 
--- and a slice that is a sheet of the shape
+-- a slice of n bytes is a sheet of the shape
+unfoldable pub fits : Shape → ℕ → Bool
+fits k n = sized k && sliced k n
+
+-- and that by its parts
 pub record Sheet (k : Shape) (s : List ℕ) : Type 0 where
   pub area : length s ≡ bytes k
   pub broad : 1 ≤ k .width

@@ -14,13 +14,15 @@ use Rattle.sheet.specs.declared.Shape.{Shape}
 abbrev pub size : ℕ → Bool
 size n = leb 1 n && leb n 4096
 
+abbrev pub sized : Shape → Bool
+sized k = size (k .width) && size (k .height)
+
 -- The slice has exactly width × height bytes.
 abbrev pub bytes : Shape → ℕ
 bytes k = k .width * k .height
 
--- a slice of n bytes is a sheet of this shape
-unfoldable pub fits : Shape → ℕ → Bool
-fits k n = size (k .width) && size (k .height) && eqb n (bytes k)
+abbrev pub sliced : Shape → ℕ → Bool
+sliced k n = eqb n (bytes k)
 
 -- Cell (x, y) with 0 ≤ x < width and 0 ≤ y < height ..
 unfoldable pub onSheet : Shape → Cell → Bool

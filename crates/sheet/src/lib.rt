@@ -1,8 +1,9 @@
 // The sheet, the table of refusals, and marking: what every figure stands on.
 ghost use mathlib.Core.Path.{_≡_};
-ghost use Rattle.sheet.specs.Sheet.{fits, coordinate, inLimits, radius, semiAxis, split, isCell, paint};
-ghost use Rattle.sheet.specs.Reply.{number, told, isDone, valueOf};
-ghost use Rattle.sheet.specs.Drawing.{Draws, markDrawing};
+ghost use mathlib.Core.List.{[]};
+ghost use Rattle.sheet.specs.Sheet.{size, coordinate, inLimits, radius, semiAxis, split, isCell, paint};
+ghost use Rattle.sheet.specs.Reply.{number, done, told, isDone, valueOf};
+ghost use Rattle.sheet.specs.Drawing.{ifSheet, Draws, markDrawing};
 ghost use Rattle.sheet.specs.Inner.{moved, lowered, movedCell, unmovedCell, loweredCell};
 
 // A cell of the unlimited grid. A pen that C lends holds two, so it has C's layout.
@@ -123,25 +124,26 @@ impl Reply {
     }
 }
 
-// Whether a slice of this many bytes is a sheet of the shape.
-pub fn fits(shape: Shape, bytes: usize) -> bool
-    ensures { λ r. ⌜ r ≡ fits shape bytes ⌝ }
+// Whether a width or a height is within its limits.
+fn is_size(n: u32) -> bool
+    ensures { λ r. ⌜ r ≡ size n ⌝ }
+{
+    (1 <= n) & (n <= 4096)
+}
+
+// Tests a sheet: done, where a slice of this many bytes is one of the shape.
+pub fn check(shape: Shape, bytes: usize) -> Reply
+    ensures { λ r. ⌜ told r ≡ ifSheet shape bytes (done []) ⌝ }
 {
     let width = shape.width;
     let height = shape.height;
-    if width < 1 {
-        return false;
+    if !(is_size(width) & is_size(height)) {
+        return Reply::Refused(Refusal::Size);
     }
-    if 4096 < width {
-        return false;
+    if bytes != width as usize * height as usize {
+        return Reply::Refused(Refusal::Size);
     }
-    if height < 1 {
-        return false;
-    }
-    if 4096 < height {
-        return false;
-    }
-    bytes == width as usize * height as usize
+    Reply::Done
 }
 
 impl Cell {
@@ -259,8 +261,9 @@ pub fn ink_at(sheet: &mut [u8], shape: Shape, ink: u8, spot: Spot)
 pub fn mark(sheet: &mut [u8], shape: Shape, ink: u8, cell: Cell) -> Reply
     ensures { λ r. ⌜ Draws (markDrawing shape ink cell) (now (sheet .entry)) (told r) (now (sheet .exit)) ⌝ }
 {
-    if !fits(shape, sheet.len()) {
-        return Reply::Refused(Refusal::Size);
+    let tested = check(shape, sheet.len());
+    if !tested.is_done() {
+        return tested;
     }
     if !in_limits(cell) {
         return Reply::Refused(Refusal::Coordinate);

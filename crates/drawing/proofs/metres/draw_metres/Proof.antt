@@ -3,23 +3,27 @@ use mathlib.Core.Path.{sym, ap, _∙_}
 use lib.ListN.{length}
 use denote.Ref.{now}
 use borrow.Author.Needs.{needs}
-use Rattle.laws.proofs.Tests.{no, yes}
-use Rattle.sheet.specs.declared.Refusal.the-variants.{Size}
 use Rattle.sheet.proofs.Draws.{refuses, draws-as}
+use Rattle.sheet.proofs.Lent.{if-sheet, is-sheet, sheet-refused}
 use Rattle.survey.specs.Metres.{inCells}
 use Rattle.survey.specs.declared.InCells.{InCells}
 use Rattle.drawing.specs.Metres.{cellsDrawing}
-use Rattle.drawing.proofs.InMetres.{found, cells-size}
+use Rattle.drawing.proofs.InMetres.{found, cells-begin}
 use Rattle.drawing.proofs.metres.draw_metres.Statement.{statement}
 use Rattle.drawing.proofs.metres.draw_metres.Tie as tie
 
-fits-requires : tie.Need-fits-requires
-fits-requires c κs = search needs
+check-requires : tie.Need-check-requires
+check-requires c κs = search needs
+
+is-done-requires : tie.Need-is-done-requires
+is-done-requires c κs = search needs
 
 returns : tie.Need-returns
 returns c =
-    let a = c .before .before .before .args in
-    refuses _ _ Size (cells-size (a .shape) (a .ink) (inCells (a .survey) (a .figure)) _ (no _ _ (c .before .fits2 .ensures) (c .if1 .taken)))
+    let asked = c .before in
+    let a = asked .before .before .before .args in
+    sheet-refused _ (a .shape) _ _ _ _ (cells-begin (a .shape) (a .ink) (inCells (a .survey) (a .figure)) _)
+    (asked .before .check .ensures) (asked .is-done .ensures) (c .if1 .taken)
 
 to-cells-requires : tie.Need-to-cells-requires
 to-cells-requires c κs = search needs
@@ -41,7 +45,7 @@ returns-2 c =
     let called = c .before .before in
     let chosen = called .before .before .before in
     let cells = chosen .before .before in
-    let a = cells .before .before .before .before .args in
+    let a = cells .before .before .before .before .before .args in
     draws-as _ _ _ _ _ (ap (cellsDrawing (a .shape) (a .ink)) (found (a .survey) (a .figure) _ _ (cells .to-cells .ensures) (chosen .figure .given .1)))
     (called .draw-figure .ensures)
 
@@ -50,16 +54,18 @@ returns-3 c =
     let chosen = c .before in
     let cells = chosen .before .before in
     let tested = cells .before in
-    let a = tested .before .before .before .args in
+    let asked = tested .before in
+    let a = asked .before .before .before .args in
     let n = length (now (a .sheet)) in
     let is = found (a .survey) (a .figure) _ _ (cells .to-cells .ensures) (chosen .refusal .given .1) in
-    refuses _ _ (chosen .refusal .given .0 .0) (ap (λ (i : InCells). cellsDrawing (a .shape) (a .ink) i .answer n) (sym is) ∙ simp (yes _ _ (tested .before .fits2 .ensures) (tested .if1 .left)))
+    refuses _ _ (chosen .refusal .given .0 .0) (ap (λ (i : InCells). cellsDrawing (a .shape) (a .ink) i .answer n) (sym is) ∙ if-sheet (a .shape) n (is-sheet _ _ _ _ (asked .before .check .ensures) (asked .is-done .ensures) (tested .if1 .left)) _)
 
 pub draw-metres-spec : {M : Type 1} → statement M
 draw-metres-spec =
     tie.close
     (tie.spec
-    fits-requires
+    check-requires
+    is-done-requires
     returns
     to-cells-requires
     enum-known-figure

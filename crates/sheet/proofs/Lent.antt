@@ -1,0 +1,74 @@
+-- The test of a sheet, with which every drawing's answer begins.
+use Prim.Native.Nat.{ℕ}
+use mathlib.Core.Path.{_≡_, refl, sym, ap, _∙_}
+use mathlib.Core.List.{List, []}
+use mathlib.Core.Bool.{Bool, true, false, _&&_, not, true≢false}
+use lib.IntN.{ℤ}
+use lib.ListN.{length}
+use Rattle.laws.proofs.Tests.{no, yes}
+use Rattle.sheet.specs.Sheet.{sized, sliced}
+use Rattle.sheet.specs.Reply.{Answer, done, isDone, unless}
+use Rattle.sheet.specs.Drawing.{ifSheet, Drawing, Draws}
+use Rattle.sheet.specs.Inner.{fits}
+use Rattle.sheet.specs.declared.Shape.{Shape}
+use Rattle.sheet.specs.declared.Refusal.the-variants.{Size}
+use Rattle.sheet.proofs.Draws.{keeps}
+
+-- two tests in turn, before an answer
+abbrev after : Bool → Bool → Answer → Answer
+after s t next = unless s Size (unless t Size next)
+
+both-passed : (s t : Bool) (next : Answer) → (s && t) ≡ true → after s t next ≡ next
+both-passed true t next e = simp e
+both-passed false t next e = absurd (true≢false (sym e))
+
+done-after : (s t : Bool) → isDone (after s t (done [])) ≡ true → (s && t) ≡ true
+done-after true true e = refl
+done-after true false e = absurd (true≢false (sym e))
+done-after false t e = absurd (true≢false (sym e))
+
+refused-after : (s t : Bool) (next : Answer) → isDone (after s t (done [])) ≡ false → after s t next ≡ after s t (done [])
+refused-after true true next e = absurd (true≢false e)
+refused-after true false next e = refl
+refused-after false t next e = refl
+
+twice-after : (s t : Bool) (next : Answer) → after s t (after s t next) ≡ after s t next
+twice-after true true next = refl
+twice-after true false next = refl
+twice-after false t next = refl
+
+done-alike : (s t : Bool) (v w : List ℤ) → isDone (after s t (done v)) ≡ isDone (after s t (done w))
+done-alike true true v w = refl
+done-alike true false v w = refl
+done-alike false t v w = refl
+
+module _ (k : Shape) (n : ℕ) where
+  -- on a sheet what follows is the answer
+  pub if-sheet : fits k n ≡ true → (next : Answer) → ifSheet k n next ≡ next
+  unfolding ifSheet fits
+  if-sheet e next = both-passed (sized k) (sliced k n) next e
+
+  -- tested again, it comes to the same
+  pub sheet-again : (next : Answer) → ifSheet k n (ifSheet k n next) ≡ ifSheet k n next
+  unfolding ifSheet
+  sheet-again next = twice-after (sized k) (sliced k n) next
+
+  -- whether an answer is 0 after it does not turn on its values
+  pub sheet-done : (v w : List ℤ) → isDone (ifSheet k n (done v)) ≡ isDone (ifSheet k n (done w))
+  unfolding ifSheet
+  sheet-done v w = done-alike (sized k) (sliced k n) v w
+
+  -- what `check` told, and what `is_done` answered of it: after `if !tested.is_done()`, taken and left
+  module _ (a : Answer) (r : Bool) (tested : a ≡ ifSheet k n (done [])) (asked : r ≡ isDone a) where
+    pub no-sheet : not r ≡ true → (next : Answer) → ifSheet k n next ≡ a
+    unfolding ifSheet
+    no-sheet e next = refused-after (sized k) (sliced k n) next (ap isDone (sym tested) ∙ no _ _ asked e) ∙ sym tested
+
+    pub is-sheet : not r ≡ false → fits k n ≡ true
+    unfolding ifSheet fits
+    is-sheet e = done-after (sized k) (sliced k n) (ap isDone (sym tested) ∙ yes _ _ asked e)
+
+-- a drawing that is refused for its sheet
+pub sheet-refused : (d : Drawing) (k : Shape) (s : List ℕ) (a : Answer) (r : Bool) (next : Answer) → d .answer (length s) ≡ ifSheet k (length s) next
+    → a ≡ ifSheet k (length s) (done []) → r ≡ isDone a → not r ≡ true → Draws d s a s
+sheet-refused d k s a r next is tested asked e = keeps d s a (no r (isDone a) asked e) (is ∙ no-sheet k (length s) a r tested asked e next)
