@@ -15,7 +15,7 @@ unfoldable pub allInLimits : List Cell → Bool
 allInLimits [] = true
 allInLimits (c ∷ cs) = inLimits c && allInLimits cs
 
--- 1, 2 for a control point, 4, else 0, for a slice of n bytes
+-- 1, 15, 2 for a control point, 4, else 0, for a slice of n bytes
 unfoldable pub curveAnswer : Shape → List Cell → ℕ → ℕ → Answer
 curveAnswer k ps s n =
     ifSheet k n

@@ -11,11 +11,11 @@ use Rattle.survey.specs.declared.InCells.{InCells}
 use Rattle.survey.specs.declared.InCells.the-variants.{Figure, Refused}
 use Rattle.drawing.specs.Figure.{figureDrawing}
 
--- the drawing of the figure in cells; or 1, then the refusal that the metres have, and no figure
+-- the drawing of the figure in cells; or 1, 15, then the refusal that the metres have, and no figure
 abbrev pub cellsDrawing : Shape → ℕ → InCells → Drawing
 cellsDrawing k ink (Figure f) = figureDrawing k ink f
 cellsDrawing k ink (Refused r) = record { shape = k; answer = λ n. ifSheet k n (refuse r); figures = [] }
 
--- 1, 6, then 7 for each field in its written order, then 3, else the drawing in cells
+-- 1, 15, 6, then 7 for each field in its written order, then 3, else the drawing in cells
 abbrev pub metresDrawing : Shape → ℕ → Survey → Metres → Drawing
 metresDrawing k ink s f = cellsDrawing k ink (inCells s f)

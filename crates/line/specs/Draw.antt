@@ -11,7 +11,7 @@ use Rattle.sheet.specs.declared.Shape.{Shape}
 use Rattle.sheet.specs.declared.Refusal.the-variants.{Coordinate}
 use Rattle.line.specs.Rule.{onLine}
 
--- 1, 2, else 0 with the number of the line's cells on the sheet, for a slice of n bytes
+-- 1, 15, 2, else 0 with the number of the line's cells on the sheet, for a slice of n bytes
 unfoldable pub lineAnswer : Shape → Cell → Cell → ℕ → Answer
 lineAnswer k a b n =
     ifSheet k n

@@ -18,7 +18,7 @@ use Rattle.sheet.specs.Inner.{fits}
 use Rattle.sheet.specs.declared.Cell.{Cell}
 use Rattle.sheet.specs.declared.Shape.{Shape}
 use Rattle.sheet.specs.declared.Refusal.{Refusal}
-use Rattle.sheet.specs.declared.Refusal.the-variants.{Size}
+use Rattle.sheet.specs.declared.Refusal.the-variants.{Size, Slice}
 use Rattle.sheet.proofs.Unique.{number-not-0}
 use Rattle.line.specs.Listing.{listAnswer, ListsInto}
 use Rattle.pistonwool.specs.Told.{numbered, counted, Keeps}
@@ -38,7 +38,7 @@ unless-tells false r a h = refused r
 
 pub sheet-tells : {P : List ℤ → Type 0} (k : Shape) (n : ℕ) (a : Answer) → (fits k n ≡ true → Tells P a) → Tells P (ifSheet k n a)
 unfolding ifSheet fits
-sheet-tells k n a h = unless-tells (sized k) Size _ (λ s. unless-tells (sliced k n) Size a (λ t. h (ap₂ _&&_ s t)))
+sheet-tells k n a h = unless-tells (sized k) Size _ (λ s. unless-tells (sliced k n) Slice a (λ t. h (ap₂ _&&_ s t)))
 
 -- with none: C is told the number
 abbrev pub None : List ℤ → Type 0

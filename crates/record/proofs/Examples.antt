@@ -7,7 +7,7 @@ use lib.IntN.{pos, negsuc}
 use lib.ListN.{length, length-take, length-drop}
 use Rattle.sheet.specs.Reply.{Answer, done, refuseAt}
 use Rattle.sheet.specs.Sheet as sheet
-use Rattle.sheet.specs.declared.Refusal.the-variants.{Coordinate, Pieces, Short, Kind, Length}
+use Rattle.sheet.specs.declared.Refusal.the-variants.{Coordinate, Pieces, Short, Kind, Kindless}
 use Rattle.record.specs.Layout.{Field, Row, wordAt, width, signed, lineRow, circleRow, ellipseRow, curveRow, table}
 use Rattle.record.specs.Reading.{valuesFrom, limitedFrom, rowFound, kindFound, payloadAt, foundAt, readAt, readAnswer}
 use Rattle.record.specs.File.{readIn, readFrom, readAll, fileAnswer}
@@ -23,11 +23,11 @@ examples =
     record { file = []; first = done []; whole = done (pos 0 ∷ []) }
     -- a lone byte: 8 at offset 0
     ∷ record { file = 11 ∷ []; first = refuseAt Short 0; whole = refuseAt Short 0 }
-    -- length 1 with one byte after it: 10; with nothing after it: 8
-    ∷ record { file = 1 ∷ 0 ∷ 7 ∷ []; first = refuseAt Length 0; whole = refuseAt Length 0 }
+    -- length 1 with one byte after it: 16; with nothing after it: 8
+    ∷ record { file = 1 ∷ 0 ∷ 7 ∷ []; first = refuseAt Kindless 0; whole = refuseAt Kindless 0 }
     ∷ record { file = 1 ∷ 0 ∷ []; first = refuseAt Short 0; whole = refuseAt Short 0 }
-    -- kind 9 with length 11 and its 11 bytes: 9
-    ∷ record { file = 11 ∷ 0 ∷ 9 ∷ 0 ∷ 1 ∷ 0 ∷ 0 ∷ 0 ∷ 0 ∷ 2 ∷ 0 ∷ 1 ∷ 0 ∷ []; first = refuseAt Kind 0; whole = refuseAt Kind 0 }
+    -- kind 9 with length 11 and its 11 bytes: 9, at the kind
+    ∷ record { file = 11 ∷ 0 ∷ 9 ∷ 0 ∷ 1 ∷ 0 ∷ 0 ∷ 0 ∷ 0 ∷ 2 ∷ 0 ∷ 1 ∷ 0 ∷ []; first = refuseAt Kind 2; whole = refuseAt Kind 2 }
     -- the line (0,0) to (2,1) with ink 1, and 13 the offset after it
     ∷ record {
       file = 11 ∷ 0 ∷ 1 ∷ 0 ∷ 1 ∷ 0 ∷ 0 ∷ 0 ∷ 0 ∷ 2 ∷ 0 ∷ 1 ∷ 0 ∷ [];
@@ -40,20 +40,20 @@ examples =
       first = done (pos 0 ∷ pos 13 ∷ pos 1 ∷ pos 1 ∷ pos 0 ∷ pos 0 ∷ pos 2 ∷ pos 1 ∷ []);
       whole = refuseAt Short 13;
     }
-    -- a circle at (16,383, −1) is read, and one at 16,384 refused with 2
+    -- a circle at (16,383, −1) is read, and one at x of 16,384 refused with 2, at x
     ∷ record {
       file = 9 ∷ 0 ∷ 2 ∷ 0 ∷ 5 ∷ 255 ∷ 63 ∷ 255 ∷ 255 ∷ 3 ∷ 0 ∷ [];
       first = done (pos 0 ∷ pos 11 ∷ pos 2 ∷ pos 5 ∷ pos 16383 ∷ negsuc 0 ∷ pos 3 ∷ []);
       whole = done (pos 1 ∷ []);
     }
-    ∷ record { file = 9 ∷ 0 ∷ 2 ∷ 0 ∷ 5 ∷ 0 ∷ 64 ∷ 255 ∷ 255 ∷ 3 ∷ 0 ∷ []; first = refuseAt Coordinate 0; whole = refuseAt Coordinate 0 }
-    -- a curve of s = 6 is read, and one of s = 7 refused with 4
+    ∷ record { file = 9 ∷ 0 ∷ 2 ∷ 0 ∷ 5 ∷ 0 ∷ 64 ∷ 255 ∷ 255 ∷ 3 ∷ 0 ∷ []; first = refuseAt Coordinate 5; whole = refuseAt Coordinate 5 }
+    -- a curve of s = 6 is read, and one of s = 7 refused with 4, at s
     ∷ record {
       file = 16 ∷ 0 ∷ 4 ∷ 0 ∷ 1 ∷ 0 ∷ 0 ∷ 0 ∷ 0 ∷ 2 ∷ 0 ∷ 4 ∷ 0 ∷ 4 ∷ 0 ∷ 0 ∷ 0 ∷ 6 ∷ [];
       first = done (pos 0 ∷ pos 18 ∷ pos 4 ∷ pos 1 ∷ pos 0 ∷ pos 0 ∷ pos 2 ∷ pos 4 ∷ pos 4 ∷ pos 0 ∷ pos 6 ∷ []);
       whole = done (pos 1 ∷ []);
     }
-    ∷ record { file = 16 ∷ 0 ∷ 4 ∷ 0 ∷ 1 ∷ 0 ∷ 0 ∷ 0 ∷ 0 ∷ 2 ∷ 0 ∷ 4 ∷ 0 ∷ 4 ∷ 0 ∷ 0 ∷ 0 ∷ 7 ∷ []; first = refuseAt Pieces 0; whole = refuseAt Pieces 0 }
+    ∷ record { file = 16 ∷ 0 ∷ 4 ∷ 0 ∷ 1 ∷ 0 ∷ 0 ∷ 0 ∷ 0 ∷ 2 ∷ 0 ∷ 4 ∷ 0 ∷ 4 ∷ 0 ∷ 0 ∷ 0 ∷ 7 ∷ []; first = refuseAt Pieces 17; whole = refuseAt Pieces 17 }
     ∷ []
 
 pub examples-hold : (map (λ (e : Example). readAnswer (e .file) 0) examples ≡ map (λ (e : Example). e .first) examples)

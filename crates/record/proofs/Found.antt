@@ -10,11 +10,13 @@ use lib.IntN.{ℤ, natAbs}
 use lib.ListN.{length}
 use Rattle.sheet.specs.Sheet as sheet
 use Rattle.sheet.specs.declared.Refusal.{Refusal}
-use Rattle.record.specs.Layout.{Field, ink, coordinate, radius, axis, pieces, Row, wordAt, width, valueAt, lineRow, circleRow, ellipseRow, curveRow, table}
+use Rattle.record.specs.Layout.{Field, lengthWord, kindWord, ink, coordinate, radius, axis, pieces, Row, wordAt, width, valueAt, kindPlace, payloadPlace, lineRow, circleRow, ellipseRow, curveRow, table}
 use Rattle.record.specs.Reading.{Found, found, end, refused, unlessAt, valuesFrom, limited, limitedFrom, rowFound, kindFound, payloadAt, foundAt}
 
 -- a field's value within its limits, and those of fields that follow each other from k on
 abbrev pub Limited : Field → ℤ → Type 0
+Limited lengthWord z = Unit {0}
+Limited kindWord z = Unit {0}
 Limited ink z = Unit {0}
 Limited coordinate z = sheet.coordinate z ≡ true
 Limited radius z = sheet.radius (natAbs z) ≡ true
@@ -34,16 +36,18 @@ module _ (P : Found → Type 0) (no : (r : Refusal) (at : ℕ) → P (refused r 
   passing t r at f h = by-test t f (refused r at) h (λ e. no r at)
 
   limited-has : (g : Field) (z : ℤ) (at : ℕ) (f : Found) → (Limited g z → P f) → P (limited g z at f)
+  limited-has lengthWord z at f h = h tt
+  limited-has kindWord z at f h = h tt
   limited-has ink z at f h = h tt
   limited-has coordinate z at f h = passing (sheet.coordinate z) _ at f h
   limited-has radius z at f h = passing (sheet.radius (natAbs z)) _ at f h
   limited-has axis z at f h = passing (sheet.semiAxis (natAbs z)) _ at f h
   limited-has pieces z at f h = passing (sheet.split (natAbs z)) _ at f h
 
-  fields-have : (fs : List Field) (p : List ℕ) (k at : ℕ) (f : Found) → (LimitedFrom fs p k → P f) → P (limitedFrom fs p k at f)
+  fields-have : (fs : List Field) (p : List ℕ) (k start : ℕ) (f : Found) → (LimitedFrom fs p k → P f) → P (limitedFrom fs p k start f)
   unfolding limitedFrom LimitedFrom
-  fields-have [] p k at f h = h tt
-  fields-have (g ∷ fs) p k at f h = limited-has g (valueAt g p k) at _ (λ a. fields-have fs p (k + width g) at f (λ b. h (a, b)))
+  fields-have [] p k start f h = h tt
+  fields-have (g ∷ fs) p k start f h = limited-has g (valueAt g p k) (start + k) _ (λ a. fields-have fs p (k + width g) start f (λ b. h (a, b)))
 
   module _ (p : List ℕ) (at next : ℕ) where
     -- a record of a row, where its fields are within their limits
@@ -52,7 +56,7 @@ module _ (P : Found → Type 0) (no : (r : Refusal) (at : ℕ) → P (refused r 
 
     row-has : (row : Row) → Made row → P (rowFound row p at next)
     unfolding rowFound
-    row-has row h = passing (eqb (2 + length p) (row .length)) _ at _ (λ e. fields-have (row .payload) p 0 at _ h)
+    row-has row h = passing (eqb (width kindWord + length p) (row .length)) _ at _ (λ e. fields-have (row .payload) p 0 (payloadPlace at) _ h)
 
     pub kind-has : (kind : ℕ) → Made lineRow → Made circleRow → Made ellipseRow → Made curveRow → P (kindFound table kind p at next)
     unfolding kindFound table
@@ -60,10 +64,11 @@ module _ (P : Found → Type 0) (no : (r : Refusal) (at : ℕ) → P (refused r 
         by-test (eqb kind (lineRow .kind)) _ _ (λ e. row-has lineRow a)
         (λ e. by-test (eqb kind (circleRow .kind)) _ _ (λ e. row-has circleRow b)
         (λ e. by-test (eqb kind (ellipseRow .kind)) _ _ (λ e. row-has ellipseRow c)
-        (λ e. by-test (eqb kind (curveRow .kind)) _ _ (λ e. row-has curveRow d) (λ e. no _ at))))
+        (λ e. by-test (eqb kind (curveRow .kind)) _ _ (λ e. row-has curveRow d) (λ e. no _ _))))
 
   pub found-has : (s : List ℕ) (at : ℕ) → P end
-      → (at + 4 ≤ at + 2 + wordAt s at → at + 2 + wordAt s at ≤ length s → P (kindFound table (wordAt s (at + 2)) (payloadAt s at) at (at + 2 + wordAt s at)))
+      → (payloadPlace at ≤ kindPlace at + wordAt s at → kindPlace at + wordAt s at ≤ length s
+      → P (kindFound table (wordAt s (kindPlace at)) (payloadAt s at) at (kindPlace at + wordAt s at)))
       → P (foundAt s at)
   unfolding foundAt
   found-has s at h k =

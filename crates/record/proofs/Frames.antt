@@ -5,7 +5,7 @@ use mathlib.Core.List.{List}
 use native.Mathlib.Omega.{arith}
 use borrow.Author.Tests.{le-leb, lt-leb}
 use lib.ListN.{length, take, drop}
-use Rattle.sheet.specs.declared.Refusal.the-variants.{Short, Length}
+use Rattle.sheet.specs.declared.Refusal.the-variants.{Short, Kindless}
 use Rattle.record.specs.Layout.{wordAt, table}
 use Rattle.record.specs.Reading.{kindFound, foundAt, readOf, readAt}
 use Rattle.record.specs.declared.types.Read.{Read}
@@ -25,7 +25,7 @@ module _ (s : List ℕ) (at : ℕ) where
     unfolding readAt foundAt
     too-long i = simp (lt-leb _ _ h, le-leb _ _ g, lt-leb _ _ (rw e at i))
 
-    pub under-2 : w ≤ length s - at - 2 → w < 2 → Refused Length at ≡ readAt s at
+    pub under-2 : w ≤ length s - at - 2 → w < 2 → Refused Kindless at ≡ readAt s at
     unfolding readAt foundAt
     under-2 i j = simp (lt-leb _ _ h, le-leb _ _ g, le-leb _ _ (rw e at i), lt-leb _ _ (rw e at j))
 
@@ -34,4 +34,5 @@ module _ (s : List ℕ) (at : ℕ) where
     unfolding readAt foundAt
     framed kind r i j f k =
         let n : at + 2 + w - (at + 4) ≡ w - 2 = omega arith in
-        rw (k, n, e, f) (simp (lt-leb _ _ h, le-leb _ _ g, le-leb _ _ (rw e at i), le-leb _ _ (rw e at j)))
+        let p : at + 4 ≡ at + 2 + 2 = omega arith in
+        rw (k, n, p, e, f) (simp (lt-leb _ _ h, le-leb _ _ g, le-leb _ _ (rw e at i), le-leb _ _ (rw e at j)))

@@ -1,72 +1,98 @@
 -- What each kind's payload is read as, test by test in its decoder's order, by the fields that the code read.
-use Prim.Native.Nat.{ℕ, _+_}
-use mathlib.Core.Path.{_≡_, refl}
+use Prim.Native.Nat.{ℕ, _+_, _≤_}
+use mathlib.Core.Path.{_≡_, refl, sym, subst}
 use mathlib.Core.List.{List}
 use mathlib.Core.Bool.{Bool, true, false, cond, _&&_}
 use native.Mathlib.Omega.{arith}
 use borrow.Author.Tests.{eq-eqb, ne-eqb}
 use lib.ListN.{length, getD}
-use Rattle.sheet.specs.Sheet.{inLimits}
+use Rattle.sheet.specs.Sheet.{coordinate, inLimits}
 use Rattle.sheet.specs.declared.Refusal.{Refusal}
 use Rattle.sheet.specs.declared.Refusal.the-variants.{Coordinate, Radius, Pieces, Length}
-use Rattle.record.specs.Layout.{Row, lineRow, circleRow, ellipseRow, curveRow}
+use Rattle.record.specs.Layout.{Row, payloadPlace, lineRow, circleRow, ellipseRow, curveRow}
 use Rattle.record.specs.Inner.{cellField, numberField}
 use Rattle.record.specs.declared.CellField.{CellField}
 use Rattle.record.specs.declared.NumberField.{NumberField}
 use Rattle.record.specs.declared.Number.the-variants as number
 use Rattle.record.specs.Reading.{Found, unlessAt, valuesFrom, limitedFrom, rowFound, readOf}
 use Rattle.sheet.specs.declared.Figure.the-variants.{Line, Circle, Ellipse, Curve}
+use Rattle.record.specs.declared.types.Read.{Read}
 use Rattle.record.specs.declared.types.Read.the-variants.{Record, Refused}
 
--- two tests in turn are both at once
-both : {A : Type 0} (a b : Bool) (x y : A) → cond (a && b) x y ≡ cond a (cond b x y) y
-both true b x y = refl
-both false b x y = refl
+-- the two coordinates of a cell, in turn: the first that is not within the limits is named
+in-turn : (a b : Bool) (r : Read) (q : Refusal) (start k l : ℕ)
+    → cond (a && b) r (Refused q (start + cond a l k)) ≡ cond a (cond b r (Refused q (start + l))) (Refused q (start + k))
+in-turn true true r q start k l = refl
+in-turn true false r q start k l = refl
+in-turn false b r q start k l = refl
 
 -- what a test leaves, as the code answers it
 read-unless : (t : Bool) (r : Refusal) (at : ℕ) (f : Found) → readOf (unlessAt t r at f) ≡ cond t (readOf f) (Refused r at)
 read-unless true r at f = refl
 read-unless false r at f = refl
 
-module _ (p : List ℕ) (at next : ℕ) where
-  -- a payload of another length
-  pub other-length : (row : Row) → (2 + length p ≡ row .length → ⊥) → Refused Length at ≡ readOf (rowFound row p at next)
-  unfolding rowFound
-  other-length row h = simp (ne-eqb (2 + length p) (row .length) h)
+-- the place of a cell's bad coordinate
+pub bad-most : (p : List ℕ) (k : ℕ) (a : CellField) → a ≡ cellField p k → a .bad ≤ k + 2
+bad-most p k a e = subst (λ (f : CellField). f .bad ≤ k + 2) (sym e) (by (coordinate (cellField p k .cell .x)))
+  where
+    by : (t : Bool) → cond t (k + 2) k ≤ k + 2
+    by true = omega arith
+    by false = omega arith
 
+-- a payload starts 4 bytes after its record
+pub after-4 : (at : ℕ) → at + 4 ≡ payloadPlace at
+after-4 at = omega arith
+
+-- a payload of another length
+pub other-length : (p : List ℕ) (at next : ℕ) (row : Row) → (2 + length p ≡ row .length → ⊥) → Refused Length at ≡ readOf (rowFound row p at next)
+unfolding rowFound
+other-length p at next row h = simp (ne-eqb (2 + length p) (row .length) h)
+
+module _ (p : List ℕ) (at start next : ℕ) (starts : start ≡ payloadPlace at) where
   pub line-found : (a b : CellField) → length p ≡ 9 → a ≡ cellField p 1 → b ≡ cellField p 5
       → readOf (rowFound lineRow p at next) ≡
-      cond (a .sound && b .sound)
+      cond (a .sound)
+      (cond (b .sound)
       (Record (record { offset = at; next = next; ink = getD p 0 0; figure = Line (a .cell) (b .cell) }))
-      (Refused Coordinate at)
+      (Refused Coordinate (start + b .bad)))
+      (Refused Coordinate (start + a .bad))
   unfolding rowFound limitedFrom valuesFrom lineRow inLimits
-  line-found a b h e f = rw (e, f) (simp (eq-eqb (2 + length p) 11 (omega arith), both, read-unless))
+  line-found a b h e f = rw (e, f, starts) (simp (eq-eqb (2 + length p) 11 (omega arith), in-turn, read-unless))
 
   pub circle-found : (centre : CellField) (r : NumberField) → length p ≡ 7 → centre ≡ cellField p 1 → r ≡ numberField p 5 number.Radius
       → readOf (rowFound circleRow p at next) ≡
       cond (centre .sound)
       (cond (r .sound)
       (Record (record { offset = at; next = next; ink = getD p 0 0; figure = Circle (centre .cell) (r .number) }))
-      (Refused Radius at)) (Refused Coordinate at)
+      (Refused Radius (start + 5)))
+      (Refused Coordinate (start + centre .bad))
   unfolding rowFound limitedFrom valuesFrom circleRow inLimits
-  circle-found centre r h e f = rw (e, f) (simp (eq-eqb (2 + length p) 9 (omega arith), both, read-unless))
+  circle-found centre r h e f = rw (e, f, starts) (simp (eq-eqb (2 + length p) 9 (omega arith), in-turn, read-unless))
 
   pub ellipse-found : (centre : CellField) (a b : NumberField) → length p ≡ 9
       → centre ≡ cellField p 1 → a ≡ numberField p 5 number.SemiAxis → b ≡ numberField p 7 number.SemiAxis
       → readOf (rowFound ellipseRow p at next) ≡
       cond (centre .sound)
-      (cond (a .sound && b .sound)
+      (cond (a .sound)
+      (cond (b .sound)
       (Record (record { offset = at; next = next; ink = getD p 0 0; figure = Ellipse (centre .cell) (a .number) (b .number) }))
-      (Refused Radius at)) (Refused Coordinate at)
+      (Refused Radius (start + 7)))
+      (Refused Radius (start + 5)))
+      (Refused Coordinate (start + centre .bad))
   unfolding rowFound limitedFrom valuesFrom ellipseRow inLimits
-  ellipse-found centre a b h e f g = rw (e, f, g) (simp (eq-eqb (2 + length p) 11 (omega arith), both, read-unless))
+  ellipse-found centre a b h e f g = rw (e, f, g, starts) (simp (eq-eqb (2 + length p) 11 (omega arith), in-turn, read-unless))
 
   pub curve-found : (p0 p1 p2 : CellField) (s : NumberField) → length p ≡ 14
       → p0 ≡ cellField p 1 → p1 ≡ cellField p 5 → p2 ≡ cellField p 9 → s ≡ numberField p 13 number.Split
       → readOf (rowFound curveRow p at next) ≡
-      cond (p0 .sound && (p1 .sound && p2 .sound))
+      cond (p0 .sound)
+      (cond (p1 .sound)
+      (cond (p2 .sound)
       (cond (s .sound)
       (Record (record { offset = at; next = next; ink = getD p 0 0; figure = Curve (p0 .cell) (p1 .cell) (p2 .cell) (s .number) }))
-      (Refused Pieces at)) (Refused Coordinate at)
+      (Refused Pieces (start + 13)))
+      (Refused Coordinate (start + p2 .bad)))
+      (Refused Coordinate (start + p1 .bad)))
+      (Refused Coordinate (start + p0 .bad))
   unfolding rowFound limitedFrom valuesFrom curveRow inLimits
-  curve-found p0 p1 p2 s h e f g k = rw (e, f, g, k) (simp (eq-eqb (2 + length p) 16 (omega arith), both, read-unless))
+  curve-found p0 p1 p2 s h e f g k = rw (e, f, g, k, starts) (simp (eq-eqb (2 + length p) 16 (omega arith), in-turn, read-unless))

@@ -1,6 +1,8 @@
 -- What only the inner functions promise each other.
 use Prim.Native.Nat.{ℕ, _+_}
 use mathlib.Core.List.{List}
+use mathlib.Core.Bool.{cond}
+use lib.IntN.{ℤ}
 use lib.ListN.{getD}
 use Rattle.sheet.specs.Sheet as sheet
 use Rattle.sheet.specs.declared.Reply.{Reply}
@@ -13,11 +15,15 @@ use Rattle.record.specs.declared.Number.the-variants.{Radius, SemiAxis, 
 use Rattle.record.specs.declared.types.Read.{Read}
 use Rattle.record.specs.declared.types.Read.the-variants as read
 
+-- of a cell whose x and y stand at two places, the first that is not within the limits; the second where none is
+abbrev pub firstBad : ℤ → ℕ → ℕ → ℕ
+firstBad x k l = cond (sheet.coordinate x) l k
+
 -- the cell at a place of a payload: x, then y
 abbrev pub cellField : List ℕ → ℕ → CellField
 cellField p k =
     let c = sheet.cell (valueAt coordinate p k) (valueAt coordinate p (k + 2)) in
-    record { cell = c; sound = sheet.inLimits c }
+    record { cell = c; sound = sheet.inLimits c; bad = firstBad (c .x) k (k + 2) }
 
 -- the field of a kind of number, and the number at a place
 abbrev pub fieldOf : Number → Field

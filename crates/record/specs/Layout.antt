@@ -17,8 +17,11 @@ wordAt s k = getD s k 0 + 256 * getD s (k + 1) 0
 unfoldable pub signed : ℕ → ℤ
 signed n = cond (ltb n 32768) (pos n) (pos n -ℤ pos 65536)
 
--- The fields of a payload: coordinates are signed 16-bit, radii and axes unsigned 16-bit; the ink and s are 1 byte.
+-- The fields of a record: its length and its kind are 2 bytes each; of its payload, coordinates are signed 16-bit, radii and axes
+-- unsigned 16-bit, the ink and s are 1 byte.
 pub data Field : Type 0 where
+  lengthWord : Field
+  kindWord : Field
   ink : Field
   coordinate : Field
   radius : Field
@@ -26,6 +29,8 @@ pub data Field : Type 0 where
   pieces : Field
 
 abbrev pub width : Field → ℕ
+width lengthWord = 2
+width kindWord = 2
 width ink = 1
 width coordinate = 2
 width radius = 2
@@ -33,11 +38,21 @@ width axis = 2
 width pieces = 1
 
 abbrev pub valueAt : Field → List ℕ → ℕ → ℤ
+valueAt lengthWord s k = pos (wordAt s k)
+valueAt kindWord s k = pos (wordAt s k)
 valueAt ink s k = pos (getD s k 0)
 valueAt coordinate s k = signed (wordAt s k)
 valueAt radius s k = pos (wordAt s k)
 valueAt axis s k = pos (wordAt s k)
 valueAt pieces s k = pos (getD s k 0)
+
+-- Each record is its length, its kind and its payload. A field's place is the sum of the widths before it: where the kind and the
+-- payload start, in a record at an offset.
+abbrev pub kindPlace : ℕ → ℕ
+kindPlace at = at + width lengthWord
+
+abbrev pub payloadPlace : ℕ → ℕ
+payloadPlace at = kindPlace at + width kindWord
 
 -- A row of the table: kind, length, payload, and the figure that the payload's values make.
 pub record Row : Type 0 where

@@ -9,12 +9,13 @@ use Rattle.sheet.specs.Sheet as sheet
 use Rattle.sheet.specs.Reply.{Answer, done, refuseAt}
 use Rattle.sheet.specs.Figure.{kindOf, valuesOf, numberIn}
 use Rattle.sheet.specs.declared.Refusal.{Refusal}
-use Rattle.sheet.specs.declared.Refusal.the-variants.{Coordinate, Radius, Pieces, Short, Kind, Length}
-use Rattle.record.specs.Layout.{Field, ink, coordinate, radius, axis, pieces, Row, wordAt, width, valueAt, table}
+use Rattle.sheet.specs.declared.Refusal.the-variants.{Coordinate, Radius, Pieces, Short, Kind, Length, Kindless}
+use Rattle.record.specs.Layout.{Field, lengthWord, kindWord, ink, coordinate, radius, axis, pieces, Row, wordAt, width, valueAt, kindPlace, payloadPlace, table}
 use Rattle.record.specs.declared.types.Read.{Read}
 use Rattle.record.specs.declared.types.Read.the-variants.{Record, End, Refused}
 
--- A record with its offset, the offset after it, its row and its payload's values; the end; or a refusal with its offset.
+-- A record with its offset, the offset after it, its row and its payload's values; the end; or a refusal with the offset of the
+-- offending field's first byte.
 pub data Found : Type 0 where
   found : ℕ → ℕ → Row → List ℤ → Found
   end : Found
@@ -31,40 +32,43 @@ valuesFrom (f ∷ fs) p k = valueAt f p k ∷ valuesFrom fs p (k + width f)
 
 -- a field within its limits, of which only a coordinate may be below 0; else 2 for a coordinate, 3 for a radius or semi-axis, 4 for s
 abbrev pub limited : Field → ℤ → ℕ → Found → Found
+limited lengthWord z at rest = rest
+limited kindWord z at rest = rest
 limited ink z at rest = rest
 limited coordinate z at rest = unlessAt (sheet.coordinate z) Coordinate at rest
 limited radius z at rest = unlessAt (sheet.radius (natAbs z)) Radius at rest
 limited axis z at rest = unlessAt (sheet.semiAxis (natAbs z)) Radius at rest
 limited pieces z at rest = unlessAt (sheet.split (natAbs z)) Pieces at rest
 
--- each field from k on in turn
+-- each field from k on in turn, of a payload that starts at an offset: the first that is not within its limits is named
 unfoldable pub limitedFrom : List Field → List ℕ → ℕ → ℕ → Found → Found
-limitedFrom [] p k at rest = rest
-limitedFrom (f ∷ fs) p k at rest = limited f (valueAt f p k) at (limitedFrom fs p (k + width f) at rest)
+limitedFrom [] p k start rest = rest
+limitedFrom (f ∷ fs) p k start rest = limited f (valueAt f p k) (start + k) (limitedFrom fs p (k + width f) start rest)
 
--- a payload of a row's kind: 10 unless the length, which counts the kind's 2 bytes and the payload, is the row's; then its fields
+-- a payload of a row's kind: 10 unless the length, which counts the kind and the payload, is the row's; then its fields
 unfoldable pub rowFound : Row → List ℕ → ℕ → ℕ → Found
 rowFound row p at next =
-    unlessAt (eqb (2 + length p) (row .length)) Length at
-    (limitedFrom (row .payload) p 0 at (found at next row (valuesFrom (row .payload) p 0)))
+    unlessAt (eqb (width kindWord + length p) (row .length)) Length at
+    (limitedFrom (row .payload) p 0 (payloadPlace at) (found at next row (valuesFrom (row .payload) p 0)))
 
 -- a payload of a kind: 9 unless a row of the table has it
 unfoldable pub kindFound : List Row → ℕ → List ℕ → ℕ → ℕ → Found
-kindFound [] kind p at next = refused Kind at
+kindFound [] kind p at next = refused Kind (kindPlace at)
 kindFound (row ∷ rows) kind p at next = cond (eqb kind (row .kind)) (rowFound row p at next) (kindFound rows kind p at next)
 
 -- the payload, which starts after the kind and runs to the record's end
 abbrev pub payloadAt : List ℕ → ℕ → List ℕ
-payloadAt s at = take (wordAt s at - 2) (drop (at + 4) s)
+payloadAt s at = take (wordAt s at - width kindWord) (drop (payloadPlace at) s)
 
--- At an offset not below the file's length the end; 8 with only 1 byte left, or under the length after its 2; 10 with a length under 2.
+-- At an offset not below the file's length the end; 8 with no whole length left, or with fewer bytes after it than it counts; 16
+-- with a length that holds no kind: all of these name the length.
 unfoldable pub foundAt : List ℕ → ℕ → Found
 foundAt s at =
     cond (leb (length s) at) end
-    (unlessAt (leb 2 (length s - at)) Short at
-    (unlessAt (leb (wordAt s at) (length s - at - 2)) Short at
-    (unlessAt (leb 2 (wordAt s at)) Length at
-    (kindFound table (wordAt s (at + 2)) (payloadAt s at) at (at + 2 + wordAt s at)))))
+    (unlessAt (leb (width lengthWord) (length s - at)) Short at
+    (unlessAt (leb (wordAt s at) (length s - at - width lengthWord)) Short at
+    (unlessAt (leb (width kindWord) (wordAt s at)) Kindless at
+    (kindFound table (wordAt s (kindPlace at)) (payloadAt s at) at (kindPlace at + wordAt s at)))))
 
 -- the paper's answer: 0 with a record's offset, the offset after it, its kind and its payload's values; 0 alone at the end
 abbrev pub answerOf : Found → Answer

@@ -11,10 +11,10 @@ ghost use mathlib.Core.Path.{_≡_};
 ghost use Prim.Native.Nat.{_+_, _*_, _≤_, _<_};
 ghost use lib.ListN.{length};
 ghost use Rattle.sheet.specs.Reply.{told};
-ghost use Rattle.record.specs.Layout.{wordAt, signed, width, lineRow, circleRow, ellipseRow, curveRow, table};
+ghost use Rattle.record.specs.Layout.{wordAt, signed, width, payloadPlace, lineRow, circleRow, ellipseRow, curveRow, table};
 ghost use Rattle.record.specs.Reading.{rowFound, kindFound, readOf, readAt, readAnswer, toldRead};
 ghost use Rattle.record.specs.File.{fileAnswer};
-ghost use Rattle.record.specs.Inner.{fieldOf, cellField, numberField, closedBy};
+ghost use Rattle.record.specs.Inner.{firstBad, fieldOf, cellField, numberField, closedBy};
 
 // A byte, widened.
 fn wide(x: u8) -> u32
@@ -50,10 +50,11 @@ fn word_at(bytes: &[u8], k: usize) -> u32
     word(bytes[k], bytes[k + 1])
 }
 
-// A cell of a payload, and whether it is within the limits.
+// A cell of a payload, whether it is within the limits, and the place of its coordinate that is not: the first, where both are not.
 struct CellField {
     cell: Cell,
     sound: bool,
+    bad: usize,
 }
 
 // A number of a payload, and whether it is within the limits of its kind.
@@ -68,18 +69,29 @@ enum Number {
     Split,
 }
 
+// The place of x where x is outside the limits, else of y.
+fn first_bad(x: i32, place: usize, after: usize) -> usize
+    ensures { λ r. ⌜ r ≡ firstBad x place after ⌝ }
+{
+    if sheet::is_coordinate(x) {
+        return after;
+    }
+    place
+}
+
 // The cell whose x stands at a place of the payload, with y after it.
 fn cell_at(payload: &[u8], place: usize) -> CellField
     requires { ⌜ place + 3 < length (now payload) ⌝ }
     ensures { λ r. ⌜ r ≡ cellField (now (payload .entry)) place ⌝ }
 {
-    let cell = Cell {
-        x: signed(word_at(payload, place)),
-        y: signed(word_at(payload, place + 2)),
-    };
+    let after = place + 2;
+    let x = signed(word_at(payload, place));
+    let y = signed(word_at(payload, after));
+    let cell = Cell { x, y };
     CellField {
         cell,
         sound: sheet::in_limits(cell),
+        bad: first_bad(x, place, after),
     }
 }
 
@@ -115,15 +127,20 @@ fn number_at(payload: &[u8], place: usize, kind: Number) -> NumberField
 
 // Kind 1: ink, x0, y0, x1, y1.
 fn line(payload: &[u8], at: usize, next: usize) -> Read
+    requires { ⌜ next ≡ payloadPlace at + length (now payload) ⌝ }
     ensures { λ r. ⌜ r ≡ readOf (rowFound lineRow (now (payload .entry)) at next) ⌝ }
 {
     if payload.len() != 9 {
         return Read::Refused(Refusal::Length, at);
     }
+    let start = at + 4;
     let a = cell_at(payload, 1);
+    if !a.sound {
+        return Read::Refused(Refusal::Coordinate, start + a.bad);
+    }
     let b = cell_at(payload, 5);
-    if !(a.sound & b.sound) {
-        return Read::Refused(Refusal::Coordinate, at);
+    if !b.sound {
+        return Read::Refused(Refusal::Coordinate, start + b.bad);
     }
     let from = a.cell;
     let to = b.cell;
@@ -137,18 +154,20 @@ fn line(payload: &[u8], at: usize, next: usize) -> Read
 
 // Kind 2: ink, centre x, centre y, r.
 fn circle(payload: &[u8], at: usize, next: usize) -> Read
+    requires { ⌜ next ≡ payloadPlace at + length (now payload) ⌝ }
     ensures { λ r. ⌜ r ≡ readOf (rowFound circleRow (now (payload .entry)) at next) ⌝ }
 {
     if payload.len() != 7 {
         return Read::Refused(Refusal::Length, at);
     }
+    let start = at + 4;
     let c = cell_at(payload, 1);
     if !c.sound {
-        return Read::Refused(Refusal::Coordinate, at);
+        return Read::Refused(Refusal::Coordinate, start + c.bad);
     }
     let r = number_at(payload, 5, Number::Radius);
     if !r.sound {
-        return Read::Refused(Refusal::Radius, at);
+        return Read::Refused(Refusal::Radius, start + 5);
     }
     let centre = c.cell;
     Read::Record(Record {
@@ -161,19 +180,24 @@ fn circle(payload: &[u8], at: usize, next: usize) -> Read
 
 // Kind 3: ink, centre x, centre y, a, b.
 fn ellipse(payload: &[u8], at: usize, next: usize) -> Read
+    requires { ⌜ next ≡ payloadPlace at + length (now payload) ⌝ }
     ensures { λ r. ⌜ r ≡ readOf (rowFound ellipseRow (now (payload .entry)) at next) ⌝ }
 {
     if payload.len() != 9 {
         return Read::Refused(Refusal::Length, at);
     }
+    let start = at + 4;
     let c = cell_at(payload, 1);
     if !c.sound {
-        return Read::Refused(Refusal::Coordinate, at);
+        return Read::Refused(Refusal::Coordinate, start + c.bad);
     }
     let a = number_at(payload, 5, Number::SemiAxis);
+    if !a.sound {
+        return Read::Refused(Refusal::Radius, start + 5);
+    }
     let b = number_at(payload, 7, Number::SemiAxis);
-    if !(a.sound & b.sound) {
-        return Read::Refused(Refusal::Radius, at);
+    if !b.sound {
+        return Read::Refused(Refusal::Radius, start + 7);
     }
     let centre = c.cell;
     Read::Record(Record {
@@ -186,20 +210,28 @@ fn ellipse(payload: &[u8], at: usize, next: usize) -> Read
 
 // Kind 4: ink, P0, P1, P2 (each x then y), s.
 fn curve(payload: &[u8], at: usize, next: usize) -> Read
+    requires { ⌜ next ≡ payloadPlace at + length (now payload) ⌝ }
     ensures { λ r. ⌜ r ≡ readOf (rowFound curveRow (now (payload .entry)) at next) ⌝ }
 {
     if payload.len() != 14 {
         return Read::Refused(Refusal::Length, at);
     }
+    let start = at + 4;
     let a = cell_at(payload, 1);
+    if !a.sound {
+        return Read::Refused(Refusal::Coordinate, start + a.bad);
+    }
     let b = cell_at(payload, 5);
+    if !b.sound {
+        return Read::Refused(Refusal::Coordinate, start + b.bad);
+    }
     let c = cell_at(payload, 9);
-    if !(a.sound & (b.sound & c.sound)) {
-        return Read::Refused(Refusal::Coordinate, at);
+    if !c.sound {
+        return Read::Refused(Refusal::Coordinate, start + c.bad);
     }
     let s = number_at(payload, 13, Number::Split);
     if !s.sound {
-        return Read::Refused(Refusal::Pieces, at);
+        return Read::Refused(Refusal::Pieces, start + 13);
     }
     let p0 = a.cell;
     let p1 = b.cell;
@@ -214,6 +246,7 @@ fn curve(payload: &[u8], at: usize, next: usize) -> Read
 
 // The payload of a record of any kind, by its decoder.
 fn decode(kind: u32, payload: &[u8], at: usize, next: usize) -> Read
+    requires { ⌜ next ≡ payloadPlace at + length (now payload) ⌝ }
     ensures { λ r. ⌜ r ≡ readOf (kindFound table kind (now (payload .entry)) at next) ⌝ }
 {
     match kind {
@@ -221,7 +254,7 @@ fn decode(kind: u32, payload: &[u8], at: usize, next: usize) -> Read
         2 => circle(payload, at, next),
         3 => ellipse(payload, at, next),
         4 => curve(payload, at, next),
-        _ => Read::Refused(Refusal::Kind, at),
+        _ => Read::Refused(Refusal::Kind, at + 2),
     }
 }
 
@@ -242,7 +275,7 @@ pub fn read(file: &[u8], at: usize) -> Read
         return Read::Refused(Refusal::Short, at);
     }
     if length < 2 {
-        return Read::Refused(Refusal::Length, at);
+        return Read::Refused(Refusal::Kindless, at);
     }
     let kind = word_at(file, at + 2);
     let end = at + 2 + length;

@@ -10,7 +10,7 @@ pub struct Record {
     pub figure: Figure,
 }
 
-// What stands at an offset: a record, the file's end, or a refusal with its offset.
+// What stands at an offset: a record, the file's end, or a refusal with the offset of the offending field's first byte.
 pub enum Read {
     Record(Record),
     End,

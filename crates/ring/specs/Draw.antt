@@ -10,7 +10,7 @@ use Rattle.sheet.specs.declared.Shape.{Shape}
 use Rattle.sheet.specs.declared.Refusal.the-variants.{Coordinate, Radius}
 use Rattle.ring.specs.Ring.{onCircle, onEllipse}
 
--- 1, 2, 3, else 0, for a slice of n bytes, whatever a ring's limits are
+-- 1, 15, 2, 3, else 0, for a slice of n bytes, whatever a ring's limits are
 unfoldable pub ringAnswer : Shape → Cell → Bool → ℕ → Answer
 ringAnswer k c limits n = ifSheet k n (unless (inLimits c) Coordinate (unless limits Radius (done [])))
 

@@ -11,12 +11,12 @@ use Rattle.sheet.specs.Reply.{Answer, done, isDone, unless}
 use Rattle.sheet.specs.Drawing.{ifSheet, Drawing, Draws}
 use Rattle.sheet.specs.Inner.{fits}
 use Rattle.sheet.specs.declared.Shape.{Shape}
-use Rattle.sheet.specs.declared.Refusal.the-variants.{Size}
+use Rattle.sheet.specs.declared.Refusal.the-variants.{Size, Slice}
 use Rattle.sheet.proofs.Draws.{keeps}
 
 -- two tests in turn, before an answer
 abbrev after : Bool → Bool → Answer → Answer
-after s t next = unless s Size (unless t Size next)
+after s t next = unless s Size (unless t Slice next)
 
 both-passed : (s t : Bool) (next : Answer) → (s && t) ≡ true → after s t next ≡ next
 both-passed true t next e = simp e

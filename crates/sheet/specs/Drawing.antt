@@ -8,7 +8,7 @@ use Rattle.sheet.specs.Sheet.{sized, sliced, inLimits, paint, isCell}
 use Rattle.sheet.specs.Reply.{Answer, done, unless, settled}
 use Rattle.sheet.specs.declared.Cell.{Cell}
 use Rattle.sheet.specs.declared.Shape.{Shape}
-use Rattle.sheet.specs.declared.Refusal.the-variants.{Size, Coordinate}
+use Rattle.sheet.specs.declared.Refusal.the-variants.{Size, Coordinate, Slice}
 
 -- a figure in an ink
 pub record Inked : Type 0 where
@@ -30,16 +30,16 @@ pub record Drawing : Type 0 where
   pub answer : ℕ → Answer
   pub figures : List Inked
 
--- 1 unless a slice of n bytes is a sheet of the shape, and then what follows: with this every drawing's answer begins
+-- 1 for the sizes, then 15 for a slice of n bytes, and then what follows: with this every drawing's answer begins
 unfoldable pub ifSheet : Shape → ℕ → Answer → Answer
-ifSheet k n next = unless (sized k) Size (unless (sliced k n) Size next)
+ifSheet k n next = unless (sized k) Size (unless (sliced k n) Slice next)
 
 -- A drawing on lent bytes: the reply is the answer, and the bytes afterwards are painted, or untouched by a refusal.
 pub record Draws (d : Drawing) (lent : List ℕ) (reply : Answer) (bytes : List ℕ) : Type 0 where
   pub tells : reply ≡ d .answer (length lent)
   pub leaves : bytes ≡ settled (d .answer (length lent)) (paintAll (d .shape) (d .figures) lent) lent
 
--- Marking one cell: 1, 2, else 0.
+-- Marking one cell: 1, 15, 2, else 0.
 unfoldable pub markAnswer : Shape → Cell → ℕ → Answer
 markAnswer k c n = ifSheet k n (unless (inLimits c) Coordinate (done []))
 

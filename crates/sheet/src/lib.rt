@@ -39,7 +39,7 @@ pub struct Shape {
 
 // Why an input is refused: one case for each number of the table.
 pub enum Refusal {
-    // 1: a sheet size is outside its limits, or the slice length differs from width × height.
+    // 1: a sheet size is outside its limits.
     Size,
     // 2: a coordinate is outside its limits; a curve has those of its control points.
     Coordinate,
@@ -57,8 +57,12 @@ pub enum Refusal {
     Short,
     // 9: unknown record kind.
     Kind,
-    // 10: record length under 2, or not the length of its kind.
+    // 10: record length not the length of its kind.
     Length,
+    // 15: the slice length differs from width × height.
+    Slice,
+    // 16: record length under 2, so that it has no kind.
+    Kindless,
 }
 
 impl Refusal {
@@ -77,6 +81,8 @@ impl Refusal {
             Refusal::Short => 8,
             Refusal::Kind => 9,
             Refusal::Length => 10,
+            Refusal::Slice => 15,
+            Refusal::Kindless => 16,
         }
     }
 }
@@ -141,7 +147,7 @@ pub fn check(shape: Shape, bytes: usize) -> Reply
         return Reply::Refused(Refusal::Size);
     }
     if bytes != width as usize * height as usize {
-        return Reply::Refused(Refusal::Size);
+        return Reply::Refused(Refusal::Slice);
     }
     Reply::Done
 }

@@ -1,10 +1,11 @@
 -- `record::circle` meets its contract.
 use mathlib.Core.Path.{refl}
 use native.Mathlib.Omega.{arith}
+use denote.Ref.{now}
 use borrow.Author.Needs.{needs}
 use Rattle.laws.proofs.Tests.{no, yes}
 use Rattle.record.specs.Layout.{circleRow}
-use Rattle.record.proofs.Rows.{other-length, circle-found}
+use Rattle.record.proofs.Rows.{after-4, bad-most, other-length, circle-found}
 use Rattle.record.proofs.circle.Statement.{statement}
 use Rattle.record.proofs.circle.Tie as tie
 
@@ -12,33 +13,49 @@ returns : tie.Need-returns
 unfolding circleRow
 returns c = other-length _ _ _ circleRow (λ e. c .if1 .taken (omega arith))
 
+add-start : tie.Need-add-start
+add-start c = search needs
+
 cell-at-requires : tie.Need-cell-at-requires
 cell-at-requires c κs = search needs
 
+add-t12 : tie.Need-add-t12
+add-t12 c =
+    let centre = c .before .before .before in
+    let start = centre .before .before .before in
+    omega (arith, bad-most (now (start .args .payload)) 1 (centre .cell-at .result) (centre .cell-at .ensures), start .pre, start .fits .next .fits, centre .before .if1 .left)
+
 returns-2 : tie.Need-returns-2
 returns-2 c =
-    let centre = c .before .before in
-    rw (circle-found _ _ _ _ _ (centre .before .if1 .left) (centre .cell-at .ensures) refl)
-    (simp (no (centre .cell-at .result .sound) _ refl (c .if2 .taken)))
+    let centre = c .before .before .before in
+    rw (circle-found _ _ _ _ (after-4 _) _ _ (centre .before .if1 .left) (centre .cell-at .ensures) refl)
+    (simp (no (centre .cell-at .result .sound) _ refl (c .before .if2 .taken)))
 
 number-at-requires : tie.Need-number-at-requires
 number-at-requires c κs = search needs
+
+add-t15 : tie.Need-add-t15
+add-t15 c =
+    let r = c .before .before in
+    let centre = r .before .before .before in
+    let start = centre .before .before .before in
+    omega (arith, start .pre, start .fits .next .fits, centre .before .if1 .left)
 
 returns-3 : tie.Need-returns-3
 returns-3 c =
     let r = c .before .before in
     let centre = r .before .before .before in
-    rw (circle-found _ _ _ _ _ (centre .before .if1 .left) (centre .cell-at .ensures) (r .number-at .ensures))
+    rw (circle-found _ _ _ _ (after-4 _) _ _ (centre .before .if1 .left) (centre .cell-at .ensures) (r .number-at .ensures))
     (simp (yes (centre .cell-at .result .sound) _ refl (r .before .if2 .left), no (r .number-at .result .sound) _ refl (c .if3 .taken)))
 
-shared-slice-read-t14 : tie.Need-shared-slice-read-t14
-shared-slice-read-t14 c = search needs
+shared-slice-read-t17 : tie.Need-shared-slice-read-t17
+shared-slice-read-t17 c = search needs
 
 returns-4 : tie.Need-returns-4
 returns-4 c =
     let r = c .before .before .before .before in
     let centre = r .before .before .before in
-    rw (circle-found _ _ _ _ _ (centre .before .if1 .left) (centre .cell-at .ensures) (r .number-at .ensures))
+    rw (circle-found _ _ _ _ (after-4 _) _ _ (centre .before .if1 .left) (centre .cell-at .ensures) (r .number-at .ensures))
     (simp (yes (centre .cell-at .result .sound) _ refl (r .before .if2 .left), yes (r .number-at .result .sound) _ refl (c .before .before .if3 .left)))
 
 pub circle-spec : {M : Type 1} → statement M
@@ -46,9 +63,12 @@ circle-spec =
     tie.close
     (tie.spec
     returns
+    add-start
     cell-at-requires
+    add-t12
     returns-2
     number-at-requires
+    add-t15
     returns-3
-    shared-slice-read-t14
+    shared-slice-read-t17
     returns-4)

@@ -18,6 +18,9 @@ ellipse-requires c κs = search needs
 curve-requires : tie.Need-curve-requires
 curve-requires c κs = search needs
 
+add-t7 : tie.Need-add-t7
+add-t7 c = search needs
+
 returns : tie.Need-returns
 returns c = c .line .ensures ∙ ap readOf (sym (kind-1 _ _ _ _ (c .before .match .keys1)))
 
@@ -43,6 +46,7 @@ decode-spec =
     circle-requires
     ellipse-requires
     curve-requires
+    add-t7
     returns
     returns-2
     returns-3
