@@ -28,29 +28,35 @@
 extern "C" {
 #endif
 
+/* What each number is given for. Where several apply, the first in this order: 1, 15; then for figures in metres 6, 7; for a
+ * record 8, 16, 9, 10; then 2, 3, 4; 5 of a listing is last. */
 enum pw_reply {
     /* done */
     PW_DONE = 0,
-    /* a sheet size is outside its limits, or the slice length differs from width x height */
+    /* a sheet size outside 1 to 4,096 */
     PW_SIZE = 1,
-    /* a coordinate is outside its limits; a curve has those of its control points */
+    /* a coordinate outside -16,384 to 16,383 */
     PW_COORDINATE = 2,
-    /* a radius or semi-axis is outside its limits */
+    /* a radius outside 0 to 16,383 or a semi-axis outside 1 to 16,383 */
     PW_RADIUS = 3,
-    /* s is above 6 */
+    /* an s above 6 */
     PW_PIECES = 4,
-    /* either lent list has fewer places than the line has cells */
+    /* a lent list with fewer places than the line has cells */
     PW_ROOM = 5,
-    /* a survey's origin is not finite, or its cell size is not finite or not above zero */
+    /* an origin of the survey that is not finite, or a cell size that is not finite or not above zero */
     PW_SURVEY = 6,
-    /* a position or length in metres has no cell in -16,384 to 16,383 */
+    /* a position or length in metres with no cell in -16,384 to 16,383 */
     PW_NO_CELL = 7,
-    /* bytes are left, but fewer than a record needs (only 1, or under its length after the 2 of the length) */
+    /* a record length that is cut off after 1 byte, or that counts more bytes than are left */
     PW_SHORT = 8,
-    /* unknown record kind */
+    /* an unknown record kind */
     PW_KIND = 9,
-    /* record length under 2, or not the length of its kind */
-    PW_LENGTH = 10
+    /* a record length that is not that of its kind */
+    PW_LENGTH = 10,
+    /* a slice length other than width x height */
+    PW_SLICE = 15,
+    /* a record length under 2, which leaves no room for a kind */
+    PW_KINDLESS = 16
 };
 
 /* Draws the line from (x0, y0) to (x1, y1). *cells is then its number of cells on the sheet. */
@@ -65,7 +71,8 @@ uint32_t pw_circle(uint8_t *sheet, size_t len, uint32_t width, uint32_t height, 
 uint32_t pw_ellipse(uint8_t *sheet, size_t len, uint32_t width, uint32_t height, uint8_t ink,
                     int32_t x, int32_t y, uint32_t a, uint32_t b);
 
-/* Draws the quadratic Bezier curve with these control points, split into 2^s pieces. */
+/* Draws the quadratic Bezier curve with these control points, split into 2^s pieces. Its joined points need no limits of
+ * their own: PW_COORDINATE speaks of the control points. */
 uint32_t pw_curve(uint8_t *sheet, size_t len, uint32_t width, uint32_t height, uint8_t ink,
                   int32_t x0, int32_t y0, int32_t x1, int32_t y1, int32_t x2, int32_t y2, uint32_t s);
 
@@ -89,8 +96,9 @@ uint32_t pw_pen_begin(struct pw_pen *pen, int32_t x0, int32_t y0, int32_t x1, in
  * A pen in a state that no beginning and asking leads to answers 0 too. */
 uint32_t pw_pen_next(struct pw_pen *pen, int32_t *x, int32_t *y);
 
-/* Draws a record file of n bytes. *value is then its number of records, or the offset of what was refused (0 for a sheet
- * that was). A file that is refused draws nothing. */
+/* Draws a record file of n bytes. *value is then its number of records; or, of a refusal, the offset in the file of the
+ * offending field's first byte: the length for 8, 10 and 16, the kind for 9, the first bad field for 2, 3 and 4; 0 for 1
+ * and 15, which speak of the sheet. A file that is refused draws nothing. */
 uint32_t pw_file(uint8_t *sheet, size_t len, uint32_t width, uint32_t height,
                  const uint8_t *file, size_t n, uint64_t *value);
 

@@ -73,7 +73,7 @@ int main(void) {
     same("size 0.0 is refused with 6",
          pw_line_metres(sheet, sizeof sheet, WIDTH, HEIGHT, 1, 0.0, 0.0, 0.0, 0.0, 0.0, 0.0, 0.0, &cells), PW_SURVEY);
 
-    same("length 1 with one byte after it: 10", file("\x01\x00\x01", 3), PW_LENGTH);
+    same("length 1 with one byte after it: 16", file("\x01\x00\x01", 3), PW_KINDLESS);
     same("length 1 with nothing after it: 8", file("\x01\x00", 2), PW_SHORT);
     same("kind 9 with length 11 and its 11 bytes: 9", file("\x0b\x00\x09\x00\x01\x00\x00\x00\x00\x02\x00\x01\x00", 13), PW_KIND);
     same("a lone byte: 8", file("\x0b", 1), PW_SHORT);

@@ -188,7 +188,7 @@ mod tests {
     #[test]
     fn a_case_is_read_back_as_it_was_written() {
         for seed in 0..2000 {
-            for case in [Case::figure(seed), Case::file(seed), Case::pen(seed)] {
+            for case in [Case::figure(seed), Case::file(seed), Case::damaged(seed), Case::pen(seed)] {
                 let text = case.to_string();
                 let again: Case = text.parse().unwrap();
                 assert_eq!(again.to_string(), text);

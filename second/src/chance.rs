@@ -1,8 +1,11 @@
 //! Inputs of the library made at random: sound ones, and ones at and beyond every limit.
 use crate::case::{places, Case, Job, Size, MOST_BYTES};
+use crate::chance_file::{bad_record, damage, file, record};
 use crate::metres::{Metres, Survey};
 use crate::native::{Cells, Pen};
 use crate::random::Random;
+
+const PRINTED: Size = Size { len: 128, width: 16, height: 8 };
 
 impl Case {
     pub fn figure(seed: u64) -> Case {
@@ -29,6 +32,22 @@ impl Case {
         let size = size(&mut random);
         let bytes = file(&mut random, size);
         Case { fill: random.number(), job: Job::File(size, bytes) }
+    }
+
+    /// A file of sound records and a bad one, on the sheet of the printing program.
+    pub fn damaged(seed: u64) -> Case {
+        let mut random = Random(seed);
+        let mut bytes = Vec::new();
+        for _ in 0..random.within(0, 4) {
+            record(&mut random, PRINTED, true, &mut bytes);
+        }
+        bad_record(&mut random, &mut bytes);
+        match random.number() % 4 {
+            0 => damage(&mut random, &mut bytes),
+            1 => record(&mut random, PRINTED, true, &mut bytes),
+            _ => {}
+        }
+        Case { fill: random.number(), job: Job::File(PRINTED, bytes) }
     }
 
     pub fn pen(seed: u64) -> Case {
@@ -113,7 +132,7 @@ fn point(random: &mut Random, size: Size) -> [i32; 2] {
     [coordinate(random, size.width), coordinate(random, size.height)]
 }
 
-fn line(random: &mut Random, size: Size) -> Cells {
+pub fn line(random: &mut Random, size: Size) -> Cells {
     let ([x0, y0], [mut x1, mut y1]) = (point(random, size), point(random, size));
     match random.number() % 16 {
         0 => (x1, y1) = (x0, y0),
@@ -134,7 +153,7 @@ fn line(random: &mut Random, size: Size) -> Cells {
     Cells::Line([x0, y0, x1, y1])
 }
 
-fn circle(random: &mut Random, size: Size) -> Cells {
+pub fn circle(random: &mut Random, size: Size) -> Cells {
     let centre = point(random, size);
     if random.once_in(2) {
         return Cells::Circle(centre, radius(random, size.width));
@@ -143,7 +162,7 @@ fn circle(random: &mut Random, size: Size) -> Cells {
     Cells::Circle(centre, (x * x + y * y).sqrt() as u32)
 }
 
-fn ellipse(random: &mut Random, size: Size) -> Cells {
+pub fn ellipse(random: &mut Random, size: Size) -> Cells {
     let centre = point(random, size);
     if random.once_in(2) {
         return Cells::Ellipse(centre, radius(random, size.width), radius(random, size.height));
@@ -154,7 +173,7 @@ fn ellipse(random: &mut Random, size: Size) -> Cells {
     Cells::Ellipse(centre, (x / part) as u32, (y / (1.0 - part * part).sqrt()) as u32)
 }
 
-fn curve(random: &mut Random, size: Size) -> Cells {
+pub fn curve(random: &mut Random, size: Size) -> Cells {
     let [[x0, y0], [x1, y1], [x2, y2]] = [(); 3].map(|()| point(random, size));
     Cells::Curve([x0, y0, x1, y1, x2, y2], pieces(random))
 }
@@ -257,62 +276,4 @@ fn beside(edge: f64, step: i64) -> f64 {
         return 5e-324 * step as f64;
     }
     f64::from_bits(edge.to_bits().wrapping_add_signed(step))
-}
-
-fn file(random: &mut Random, size: Size) -> Vec<u8> {
-    let mut bytes = Vec::new();
-    let records = if random.once_in(2000) { random.within(100, 400) } else { random.within(0, 6) };
-    for _ in 0..records {
-        record(random, size, records > 6, &mut bytes);
-    }
-    if random.once_in(2) {
-        for _ in 0..random.within(1, 3) {
-            damage(random, &mut bytes);
-        }
-    }
-    bytes
-}
-
-fn record(random: &mut Random, size: Size, tame: bool, bytes: &mut Vec<u8>) {
-    let mut figure = match random.number() % 4 {
-        0 => line(random, size),
-        1 => circle(random, size),
-        2 => ellipse(random, size),
-        _ => curve(random, size),
-    };
-    // of long files, most records are to be drawn
-    if tame {
-        figure = Cells::Line([0, 0, random.within(-99, 99) as i32, random.within(-99, 99) as i32]);
-    }
-    let (kind, numbers, s): (u16, Vec<i64>, Option<u32>) = match figure {
-        Cells::Line(ends) => (1, ends.map(i64::from).to_vec(), None),
-        Cells::Circle([x, y], r) => (2, vec![x.into(), y.into(), r.into()], None),
-        Cells::Ellipse([x, y], a, b) => (3, vec![x.into(), y.into(), a.into(), b.into()], None),
-        Cells::Curve(points, s) => (4, points.map(i64::from).to_vec(), Some(s)),
-    };
-    let length = 3 + 2 * numbers.len() + usize::from(s.is_some());
-    bytes.extend((length as u16).to_le_bytes());
-    bytes.extend(kind.to_le_bytes());
-    bytes.push(random.number() as u8);
-    bytes.extend(numbers.iter().flat_map(|&number| (number as u16).to_le_bytes()));
-    bytes.extend(s.map(|s| s as u8));
-}
-
-fn damage(random: &mut Random, bytes: &mut Vec<u8>) {
-    let at = random.number() as usize % (bytes.len() + 1);
-    match random.number() % 8 {
-        0 => bytes.truncate(at),
-        1 => bytes.insert(at, random.number() as u8),
-        2 if at < bytes.len() => drop(bytes.remove(at)),
-        3 => bytes.push(random.number() as u8),
-        // small numbers, as lengths and kinds are
-        4 | 5 if at < bytes.len() => bytes[at] = random.within(0, 17) as u8,
-        6 if at < bytes.len() => bytes[at] ^= 1 << random.within(0, 7),
-        7 if random.once_in(4) => {
-            bytes.resize(random.within(0, 40) as usize, 0);
-            random.fill(bytes);
-        }
-        // a record without a payload
-        _ => bytes.extend([random.within(0, 3) as u8, 0, random.within(0, 5) as u8, 0]),
-    }
 }

@@ -1,27 +1,32 @@
 //! The record file.
-use crate::rule::{Figure, Reply, Rules, Sheet};
+use crate::rule::{Bad, Figure, Reply, Rules, Sheet};
 
-/// A record's ink, its figure and the bytes that it takes; or the number that refuses it.
-fn record(rules: &Rules, rest: &[u8]) -> Result<(u8, Figure, usize), u32> {
+/// Where the fields of a record stand that are not its figure's.
+const LENGTH: usize = 0;
+const KIND: usize = 2;
+const INK: usize = 4;
+
+/// A record's ink, its figure and the bytes that it takes; or the number that refuses it and where the field that is named stands.
+fn record(rules: &Rules, rest: &[u8]) -> Result<(u8, Figure, usize), Bad> {
     if rest.len() < 2 {
-        return Err(8);
+        return Err((8, LENGTH));
     }
     let length = u16::from_le_bytes([rest[0], rest[1]]) as usize;
     let Some(body) = rest[2..].get(..length) else {
-        return Err(8);
+        return Err((8, LENGTH));
     };
     if length < 2 {
-        return Err(10);
+        return Err((rules.kindless, LENGTH));
     }
     let kind = u16::from_le_bytes([body[0], body[1]]);
     let needed = match kind {
         1 | 3 => 11,
         2 => 9,
         4 => 16,
-        _ => return Err(9),
+        _ => return Err((9, KIND)),
     };
     if length != needed {
-        return Err(10);
+        return Err((10, LENGTH));
     }
     let pair = |i: usize| [body[3 + 2 * i], body[4 + 2 * i]];
     let signed = |i: usize| i16::from_le_bytes(pair(i)) as i64;
@@ -34,24 +39,24 @@ fn record(rules: &Rules, rest: &[u8]) -> Result<(u8, Figure, usize), u32> {
         _ => Figure::Curve([point(0), point(2), point(4)], body[15] as i64),
     };
     match (rules.refusal)(&figure) {
-        Some(number) => Err(number),
+        // every field before the last has 2 bytes
+        Some((number, field)) => Err((number, INK + 1 + 2 * field)),
         None => Ok((body[2], figure, 2 + length)),
     }
 }
 
 impl Rules {
-    /// Draws a file; the value is its number of records, or the offset of the refused one.
+    /// Draws a file; the value is its number of records, or the offset of the field that is named.
     pub fn draw_file(&self, sheet: &mut Sheet, file: &[u8]) -> Reply {
-        if !sheet.fits() {
-            return Reply { number: 1, value: Some(0) };
+        if let Some(number) = (self.no_sheet)(sheet) {
+            return Reply { number, value: Some(0) };
         }
         let mut records = Vec::new();
         let mut offset = 0;
         while offset < file.len() {
             match record(self, &file[offset..]) {
-                Err(number) => {
-                    let value = Some(if self.tells_offset { offset as u64 } else { 0 });
-                    return Reply { number, value };
+                Err((number, place)) => {
+                    return Reply { number, value: Some((self.offset)(offset, place) as u64) };
                 }
                 Ok((ink, figure, taken)) => {
                     if !self.reads_first {
@@ -85,9 +90,42 @@ mod tests {
         assert_eq!(reply(&[]), (0, Some(0)));
         assert_eq!(reply(&line), (0, Some(1)));
         assert_eq!(reply(&[7]), (8, Some(0)));
-        assert_eq!(reply(&[1, 0, 5]), (10, Some(0)));
+        assert_eq!(reply(&[1, 0, 5]), (16, Some(0)));
         assert_eq!(reply(&[1, 0]), (8, Some(0)));
-        assert_eq!(reply(&[11, 0, 9, 0, 1, 0, 0, 0, 0, 2, 0, 1, 0]), (9, Some(0)));
+        assert_eq!(reply(&[11, 0, 9, 0, 1, 0, 0, 0, 0, 2, 0, 1, 0]), (9, Some(2)));
         assert_eq!(reply(&[&line[..], &[7]].concat()), (8, Some(13)));
+    }
+
+    /// A record of a kind with these numbers after the ink, the last of a curve in 1 byte.
+    fn with(kind: u8, numbers: &[u16]) -> Vec<u8> {
+        let mut bytes = vec![0, 0, kind, 0, 1];
+        bytes.extend(numbers.iter().flat_map(|number| number.to_le_bytes()));
+        bytes.truncate(bytes.len() - usize::from(kind == 4));
+        bytes[0] = bytes.len() as u8 - 2;
+        bytes
+    }
+
+    #[test]
+    fn fields_of_each_kind() {
+        // numbers that are drawn; then for each field the offset, and the number that refuses one outside its limits
+        let kinds: [(u8, &[u16], &[(u64, u32)]); 4] = [
+            (1, &[0, 0, 2, 1], &[(5, 2), (7, 2), (9, 2), (11, 2)]),
+            (2, &[1, 1, 3], &[(5, 2), (7, 2), (9, 3)]),
+            (3, &[1, 1, 3, 2], &[(5, 2), (7, 2), (9, 3), (11, 3)]),
+            (4, &[0, 0, 2, 4, 4, 0, 6], &[(5, 2), (7, 2), (9, 2), (11, 2), (13, 2), (15, 2), (17, 4)]),
+        ];
+        for (kind, sound, fields) in kinds {
+            assert_eq!(reply(&with(kind, sound)), (0, Some(1)));
+            for (i, &(offset, number)) in fields.iter().enumerate() {
+                // bad alone, and together with each field after it
+                for j in i..fields.len() {
+                    let mut numbers = sound.to_vec();
+                    (numbers[i], numbers[j]) = (0x4007, 0x4007);
+                    assert_eq!(reply(&with(kind, &numbers)), (number, Some(offset)));
+                    let after = [with(kind, sound), with(kind, &numbers)].concat();
+                    assert_eq!(reply(&after), (number, Some(offset + with(kind, sound).len() as u64)));
+                }
+            }
+        }
     }
 }

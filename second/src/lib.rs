@@ -1,6 +1,7 @@
 //! A second drawing program, written from documents 01 and 02 by membership, and what compares it with the library.
 pub mod case;
 pub mod chance;
+mod chance_file;
 pub mod file;
 pub mod guard;
 pub mod metres;

@@ -29,10 +29,10 @@ pub fn cell(q: f64) -> Option<i64> {
 }
 
 impl Rules {
-    /// 1, 6, then 7 for each field, then 3.
+    /// 1, 15, 6, then 7 for each field, then 3.
     pub fn draw_metres(&self, sheet: &mut Sheet, ink: u8, survey: Survey, figure: Metres) -> Reply {
-        if !sheet.fits() {
-            return Reply::refused(1);
+        if let Some(number) = (self.no_sheet)(sheet) {
+            return Reply::refused(number);
         }
         if !survey.is_sound() {
             return Reply::refused(6);

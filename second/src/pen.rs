@@ -37,7 +37,7 @@ impl Call {
         if let Some([x0, y0, x1, y1]) = ends {
             let line = Figure::Line((x0.into(), y0.into()), (x1.into(), y1.into()));
             match (rules.refusal)(&line) {
-                Some(number) => now.number = number,
+                Some((number, _)) => now.number = number,
                 None => now.pen = Pen { ends: [x0, y0, x1, y1], told: 0 },
             }
             calls.push(now);

@@ -4,6 +4,8 @@ pub const LEAST: i64 = -16_384;
 pub const MOST: i64 = 16_383;
 
 pub type Cell = (i64, i64);
+/// A number that refuses, and the field that it names.
+pub type Bad = (u32, usize);
 /// A cell that a pen tells, and how many it has told then.
 pub type Told = (Cell, u64);
 
@@ -38,15 +40,6 @@ pub struct Sheet<'a> {
     pub bytes: &'a mut [u8],
 }
 
-impl Sheet<'_> {
-    pub fn fits(&self) -> bool {
-        let limits = 1..=4096;
-        limits.contains(&self.width)
-            && limits.contains(&self.height)
-            && self.bytes.len() as i64 == self.width * self.height
-    }
-}
-
 /// The rules that a wrong program would have wrong, each replaceable; `Rules::document()` has them as they are written.
 #[derive(Clone, Copy)]
 pub struct Rules {
@@ -66,12 +59,16 @@ pub struct Rules {
     pub cell: fn(f64) -> Option<i64>,
     /// What a pen of these ends that has told so many cells tells until it is finished.
     pub asked: fn(&Rules, Cell, Cell, u64) -> Vec<Told>,
-    /// The number 2, 3 or 4 that refuses a figure.
-    pub refusal: fn(&Figure) -> Option<u32>,
+    /// The number 1 or 15 that refuses a sheet.
+    pub no_sheet: fn(&Sheet) -> Option<u32>,
+    /// The number 2, 3 or 4 that refuses a figure, and which of its fields, counted from 0, is named.
+    pub refusal: fn(&Figure) -> Option<Bad>,
+    /// The number that refuses a record whose length is under 2.
+    pub kindless: u32,
     /// Whether a file is read to its end before the first cell is written.
     pub reads_first: bool,
-    /// Whether a refusal has the offset of its record.
-    pub tells_offset: bool,
+    /// The offset that a refusal tells, of a field that stands so far into the record at an offset.
+    pub offset: fn(usize, usize) -> usize,
 }
 
 impl Rules {
@@ -85,18 +82,20 @@ impl Rules {
             floor: i64::div_euclid,
             cell: crate::metres::cell,
             asked,
+            no_sheet,
             refusal,
+            kindless: 16,
             reads_first: true,
-            tells_offset: true,
+            offset: |record, place| record + place,
         }
     }
 
     pub fn draw(&self, sheet: &mut Sheet, ink: u8, figure: &Figure) -> Reply {
-        if !sheet.fits() {
-            return Reply::refused(1);
+        if let Some(number) = (self.no_sheet)(sheet) {
+            return Reply::refused(number);
         }
         match (self.refusal)(figure) {
-            Some(number) => Reply::refused(number),
+            Some((number, _)) => Reply::refused(number),
             None => Reply::done(self.paint(sheet, ink, figure)),
         }
     }
@@ -154,7 +153,7 @@ impl Rules {
 
     /// Lists a line's cells: 2, then 5.
     pub fn list(&self, xs: &mut [i32], ys: &mut [i32], from: Cell, to: Cell) -> Reply {
-        if let Some(number) = (self.refusal)(&Figure::Line(from, to)) {
+        if let Some((number, _)) = (self.refusal)(&Figure::Line(from, to)) {
             return Reply::refused(number);
         }
         let cells = (self.line)(from, to);
@@ -169,18 +168,34 @@ impl Rules {
     }
 }
 
-/// The numbers 2, 3, 4 in this order.
-pub fn refusal(figure: &Figure) -> Option<u32> {
-    let strange = |points: &[Cell]| points.iter().any(|&(x, y)| !within(x) || !within(y));
-    match *figure {
-        Figure::Line(from, to) if strange(&[from, to]) => Some(2),
-        Figure::Circle(centre, _) | Figure::Ellipse(centre, _, _) if strange(&[centre]) => Some(2),
-        Figure::Curve(points, _) if strange(&points) => Some(2),
-        Figure::Circle(_, r) if !(0..=MOST).contains(&r) => Some(3),
-        Figure::Ellipse(_, a, b) if [a, b].iter().any(|axis| !(1..=MOST).contains(axis)) => Some(3),
-        Figure::Curve(_, s) if s > 6 => Some(4),
-        _ => None,
+/// 1 for the sizes, then 15 for the slice.
+pub fn no_sheet(sheet: &Sheet) -> Option<u32> {
+    if [sheet.width, sheet.height].iter().any(|side| !(1..=4096).contains(side)) {
+        return Some(1);
     }
+    (sheet.bytes.len() as i64 != sheet.width * sheet.height).then_some(15)
+}
+
+/// The first field that is outside its limits, in the order of the payload: the numbers 2, 3, 4 have that order too.
+pub fn refusal(figure: &Figure) -> Option<Bad> {
+    bad_fields(figure).first().copied()
+}
+
+/// Every field that is outside its limits, in the order of the payload.
+pub fn bad_fields(figure: &Figure) -> Vec<Bad> {
+    let coordinate = |c: i64| (!within(c), 2);
+    let radius = |r: i64, least: i64| (!(least..=MOST).contains(&r), 3);
+    let fields = match *figure {
+        Figure::Line((x0, y0), (x1, y1)) => [x0, y0, x1, y1].map(coordinate).to_vec(),
+        Figure::Circle((x, y), r) => vec![coordinate(x), coordinate(y), radius(r, 0)],
+        Figure::Ellipse((x, y), a, b) => vec![coordinate(x), coordinate(y), radius(a, 1), radius(b, 1)],
+        Figure::Curve(points, s) => {
+            let coordinates = points.iter().flat_map(|&(x, y)| [x, y]).map(coordinate);
+            coordinates.chain([(s > 6, 4)]).collect()
+        }
+    };
+    let numbered = fields.into_iter().enumerate();
+    numbered.filter_map(|(field, (bad, number))| bad.then_some((number, field))).collect()
 }
 
 /// Nothing after the last cell, nor for ends that no pen is begun from.
@@ -284,8 +299,8 @@ mod tests {
         let rules = Rules::document();
         assert_eq!(rules.joined([(0, 0), (2, 4), (4, 0)], 1), [(0, 0), (2, 2), (4, 0)]);
         assert_eq!(rules.joined([(-1, 0), (-1, -1), (0, 0)], 1), [(-1, 0), (-1, 0), (0, 0)]);
-        assert_eq!(refusal(&Figure::Curve([(0, 0); 3], 7)), Some(4));
+        assert_eq!(refusal(&Figure::Curve([(0, 0); 3], 7)), Some((4, 6)));
         assert_eq!(refusal(&Figure::Curve([(0, 0); 3], 6)), None);
-        assert_eq!(refusal(&Figure::Line((0, 0), (16_384, 0))), Some(2));
+        assert_eq!(refusal(&Figure::Line((0, 0), (16_384, 0))), Some((2, 2)));
     }
 }

@@ -1,5 +1,7 @@
 //! Second programs that are wrong on purpose: a comparison that is worth anything catches each.
-use crate::rule::{asked, cells_from, line_cells, place, refusal, Cell, Figure, Rules, Told};
+use crate::rule::{
+    asked, bad_fields, cells_from, line_cells, no_sheet, place, refusal, Bad, Cell, Figure, Rules, Sheet, Told,
+};
 
 /// Each with what is wrong in it.
 pub fn wrong_programs() -> Vec<(&'static str, Rules)> {
@@ -23,7 +25,11 @@ pub fn wrong_programs() -> Vec<(&'static str, Rules)> {
         ("a curve's middle control point may be outside the limits", Rules { refusal: middle_free, ..right }),
         ("s = 7 is drawn", Rules { refusal: seventh, ..right }),
         ("a file is drawn as it is read", Rules { reads_first: false, ..right }),
-        ("a refused file tells offset 0", Rules { tells_offset: false, ..right }),
+        ("a slice of another length is refused as a bad size", Rules { no_sheet: one_number, ..right }),
+        ("a length under 2 is refused as that of another kind", Rules { kindless: 10, ..right }),
+        ("a refused file tells offset 0", Rules { offset: |_, _| 0, ..right }),
+        ("a refused file tells the record's offset", Rules { offset: |record, _| record, ..right }),
+        ("a refused file tells the last bad field", Rules { refusal: last_bad, ..right }),
     ]
 }
 
@@ -82,7 +88,7 @@ fn nearest(q: f64) -> Option<i64> {
     crate::metres::cell((q + 0.5).floor())
 }
 
-fn one_more(figure: &Figure) -> Option<u32> {
+fn one_more(figure: &Figure) -> Option<Bad> {
     let less = |(x, y): Cell| (if x == 16_384 { 16_383 } else { x }, if y == 16_384 { 16_383 } else { y });
     match *figure {
         Figure::Line(from, to) => refusal(&Figure::Line(less(from), less(to))),
@@ -90,30 +96,40 @@ fn one_more(figure: &Figure) -> Option<u32> {
     }
 }
 
-fn radius_first(figure: &Figure) -> Option<u32> {
+fn radius_first(figure: &Figure) -> Option<Bad> {
     match *figure {
         Figure::Circle(_, r) => refusal(&Figure::Circle((0, 0), r)).or_else(|| refusal(figure)),
         _ => refusal(figure),
     }
 }
 
-fn flat(figure: &Figure) -> Option<u32> {
+fn flat(figure: &Figure) -> Option<Bad> {
     match *figure {
         Figure::Ellipse(centre, a, b) => refusal(&Figure::Ellipse(centre, a.max(1), b.max(1))),
         _ => refusal(figure),
     }
 }
 
-fn middle_free(figure: &Figure) -> Option<u32> {
+fn middle_free(figure: &Figure) -> Option<Bad> {
     match *figure {
         Figure::Curve([p0, _, p2], s) => refusal(&Figure::Curve([p0, p0, p2], s)),
         _ => refusal(figure),
     }
 }
 
-fn seventh(figure: &Figure) -> Option<u32> {
+fn seventh(figure: &Figure) -> Option<Bad> {
     match *figure {
         Figure::Curve(points, 7) => refusal(&Figure::Curve(points, 6)),
         _ => refusal(figure),
     }
+}
+
+fn one_number(sheet: &Sheet) -> Option<u32> {
+    no_sheet(sheet).map(|_| 1)
+}
+
+fn last_bad(figure: &Figure) -> Option<Bad> {
+    let bad = bad_fields(figure);
+    let (number, _) = *bad.first()?;
+    bad.into_iter().rfind(|&(other, _)| other == number)
 }

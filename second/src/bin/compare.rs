@@ -1,6 +1,6 @@
-//! Compares the proved library with the second drawing program on random figures, files and pens.
+//! Compares the proved library with the second drawing program on random figures, files, damaged files and pens.
 //!
-//!     compare [COUNT] [SEED]    COUNT figures, COUNT files and COUNT pens
+//!     compare [COUNT] [SEED]    COUNT figures, COUNT files, COUNT damaged files and COUNT pens
 //!     compare --one CASE        one case, as a difference prints it
 //!     compare --teeth           wrong second programs, each of which must be caught
 use second::case::Case;
@@ -55,7 +55,7 @@ fn case(make: Make, seed: u64, i: u64) -> Case {
 
 /// How often each export gave each reply, and how often it changed a sheet, list or pen.
 #[derive(Default)]
-struct Tally(BTreeMap<&'static str, ([u64; 11], u64)>);
+struct Tally(BTreeMap<&'static str, ([u64; 17], u64)>);
 
 impl Tally {
     fn add(&mut self, export: &'static str, (number, changed): (u32, bool)) {
@@ -117,7 +117,7 @@ fn run(name: &str, make: Make, count: u64, seed: u64) -> bool {
 fn caught(rules: &Rules, seed: u64) -> bool {
     let mut room = Room::default();
     (0..PATIENCE).any(|i| {
-        [Case::figure, Case::file, Case::pen].into_iter().any(|make| {
+        [Case::figure, Case::file, Case::damaged, Case::pen].into_iter().any(|make| {
             let case = case(make, seed, i);
             compare(&mut room, rules, &case).is_err_and(|what| {
                 println!("  caught after {i} cases: {what}\n  {case}");
@@ -197,8 +197,13 @@ fn main() -> ExitCode {
                 return usage();
             };
             count(
-                [("figures", Case::figure as Make), ("files", Case::file), ("pens", Case::pen)]
-                    .map(|(name, make)| run(name, make, many, seed)),
+                [
+                    ("figures", Case::figure as Make),
+                    ("files", Case::file),
+                    ("damaged files", Case::damaged),
+                    ("pens", Case::pen),
+                ]
+                .map(|(name, make)| run(name, make, many, seed)),
             )
         }
         _ => usage(),
