@@ -8,7 +8,7 @@ use lib.ListN.{length, length-take, length-drop}
 use Rattle.sheet.specs.Reply.{Answer, done, refuseAt}
 use Rattle.sheet.specs.Sheet as sheet
 use Rattle.sheet.specs.declared.Refusal.the-variants.{Coordinate, Pieces, Short, Kind, Kindless}
-use Rattle.record.specs.Layout.{Field, Row, wordAt, width, signed, lineRow, circleRow, ellipseRow, curveRow, table}
+use Rattle.record.specs.Layout.{Row, kindWord, wordAt, widths, signed, lineRow, circleRow, ellipseRow, curveRow, table}
 use Rattle.record.specs.Reading.{valuesFrom, limitedFrom, rowFound, kindFound, payloadAt, foundAt, readAt, readAnswer}
 use Rattle.record.specs.File.{readIn, readFrom, readAll, fileAnswer}
 
@@ -61,13 +61,9 @@ pub examples-hold : (map (λ (e : Example). readAnswer (e .file) 0) examples ≡
 unfolding examples readAnswer fileAnswer readAll readFrom readIn readAt foundAt kindFound rowFound limitedFrom valuesFrom table lineRow circleRow ellipseRow curveRow signed sheet.coordinate
 examples-hold = (refl, refl)
 
--- the table's lengths count the 2 bytes of the kind and those of the payload
-pub widths : List Field → ℕ
-widths [] = 0
-widths (f ∷ fs) = width f + widths fs
-
-pub lengths-hold : map (λ (row : Row). row .length) table ≡ map (λ (row : Row). 2 + widths (row .payload)) table
-unfolding widths table lineRow circleRow ellipseRow curveRow
+-- the table's lengths count the kind and the payload
+pub lengths-hold : map (λ (row : Row). row .length) table ≡ map (λ (row : Row). widths (kindWord ∷ row .payload)) table
+unfolding table lineRow circleRow ellipseRow curveRow
 lengths-hold = refl
 
 -- and so does the length of a record that the file has whole

@@ -34,5 +34,4 @@ module _ (s : List ℕ) (at : ℕ) where
     unfolding readAt foundAt
     framed kind r i j f k =
         let n : at + 2 + w - (at + 4) ≡ w - 2 = omega arith in
-        let p : at + 4 ≡ at + 2 + 2 = omega arith in
-        rw (k, n, p, e, f) (simp (lt-leb _ _ h, le-leb _ _ g, le-leb _ _ (rw e at i), le-leb _ _ (rw e at j)))
+        rw (k, n, e, f) (simp (lt-leb _ _ h, le-leb _ _ g, le-leb _ _ (rw e at i), le-leb _ _ (rw e at j)))

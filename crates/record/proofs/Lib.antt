@@ -9,3 +9,4 @@ pub mod Onward
 mod Counting
 pub mod Unique
 pub mod Examples
+pub mod Named

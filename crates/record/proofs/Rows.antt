@@ -9,7 +9,7 @@ use lib.ListN.{length, getD}
 use Rattle.sheet.specs.Sheet.{coordinate, inLimits}
 use Rattle.sheet.specs.declared.Refusal.{Refusal}
 use Rattle.sheet.specs.declared.Refusal.the-variants.{Coordinate, Radius, Pieces, Length}
-use Rattle.record.specs.Layout.{Row, payloadPlace, lineRow, circleRow, ellipseRow, curveRow}
+use Rattle.record.specs.Layout.{Row, lineRow, circleRow, ellipseRow, curveRow}
 use Rattle.record.specs.Inner.{cellField, numberField}
 use Rattle.record.specs.declared.CellField.{CellField}
 use Rattle.record.specs.declared.NumberField.{NumberField}
@@ -39,35 +39,31 @@ bad-most p k a e = subst (λ (f : CellField). f .bad ≤ k + 2) (sym e) (by (coo
     by true = omega arith
     by false = omega arith
 
--- a payload starts 4 bytes after its record
-pub after-4 : (at : ℕ) → at + 4 ≡ payloadPlace at
-after-4 at = omega arith
-
 -- a payload of another length
 pub other-length : (p : List ℕ) (at next : ℕ) (row : Row) → (2 + length p ≡ row .length → ⊥) → Refused Length at ≡ readOf (rowFound row p at next)
 unfolding rowFound
 other-length p at next row h = simp (ne-eqb (2 + length p) (row .length) h)
 
-module _ (p : List ℕ) (at start next : ℕ) (starts : start ≡ payloadPlace at) where
+module _ (p : List ℕ) (at next : ℕ) where
   pub line-found : (a b : CellField) → length p ≡ 9 → a ≡ cellField p 1 → b ≡ cellField p 5
       → readOf (rowFound lineRow p at next) ≡
       cond (a .sound)
       (cond (b .sound)
       (Record (record { offset = at; next = next; ink = getD p 0 0; figure = Line (a .cell) (b .cell) }))
-      (Refused Coordinate (start + b .bad)))
-      (Refused Coordinate (start + a .bad))
+      (Refused Coordinate (at + 4 + b .bad)))
+      (Refused Coordinate (at + 4 + a .bad))
   unfolding rowFound limitedFrom valuesFrom lineRow inLimits
-  line-found a b h e f = rw (e, f, starts) (simp (eq-eqb (2 + length p) 11 (omega arith), in-turn, read-unless))
+  line-found a b h e f = rw (e, f) (simp (eq-eqb (2 + length p) 11 (omega arith), in-turn, read-unless))
 
   pub circle-found : (centre : CellField) (r : NumberField) → length p ≡ 7 → centre ≡ cellField p 1 → r ≡ numberField p 5 number.Radius
       → readOf (rowFound circleRow p at next) ≡
       cond (centre .sound)
       (cond (r .sound)
       (Record (record { offset = at; next = next; ink = getD p 0 0; figure = Circle (centre .cell) (r .number) }))
-      (Refused Radius (start + 5)))
-      (Refused Coordinate (start + centre .bad))
+      (Refused Radius (at + 4 + 5)))
+      (Refused Coordinate (at + 4 + centre .bad))
   unfolding rowFound limitedFrom valuesFrom circleRow inLimits
-  circle-found centre r h e f = rw (e, f, starts) (simp (eq-eqb (2 + length p) 9 (omega arith), in-turn, read-unless))
+  circle-found centre r h e f = rw (e, f) (simp (eq-eqb (2 + length p) 9 (omega arith), in-turn, read-unless))
 
   pub ellipse-found : (centre : CellField) (a b : NumberField) → length p ≡ 9
       → centre ≡ cellField p 1 → a ≡ numberField p 5 number.SemiAxis → b ≡ numberField p 7 number.SemiAxis
@@ -76,11 +72,11 @@ module _ (p : List ℕ) (at start next : ℕ) (starts : start ≡ payloadPlace a
       (cond (a .sound)
       (cond (b .sound)
       (Record (record { offset = at; next = next; ink = getD p 0 0; figure = Ellipse (centre .cell) (a .number) (b .number) }))
-      (Refused Radius (start + 7)))
-      (Refused Radius (start + 5)))
-      (Refused Coordinate (start + centre .bad))
+      (Refused Radius (at + 4 + 7)))
+      (Refused Radius (at + 4 + 5)))
+      (Refused Coordinate (at + 4 + centre .bad))
   unfolding rowFound limitedFrom valuesFrom ellipseRow inLimits
-  ellipse-found centre a b h e f g = rw (e, f, g, starts) (simp (eq-eqb (2 + length p) 11 (omega arith), in-turn, read-unless))
+  ellipse-found centre a b h e f g = rw (e, f, g) (simp (eq-eqb (2 + length p) 11 (omega arith), in-turn, read-unless))
 
   pub curve-found : (p0 p1 p2 : CellField) (s : NumberField) → length p ≡ 14
       → p0 ≡ cellField p 1 → p1 ≡ cellField p 5 → p2 ≡ cellField p 9 → s ≡ numberField p 13 number.Split
@@ -90,9 +86,9 @@ module _ (p : List ℕ) (at start next : ℕ) (starts : start ≡ payloadPlace a
       (cond (p2 .sound)
       (cond (s .sound)
       (Record (record { offset = at; next = next; ink = getD p 0 0; figure = Curve (p0 .cell) (p1 .cell) (p2 .cell) (s .number) }))
-      (Refused Pieces (start + 13)))
-      (Refused Coordinate (start + p2 .bad)))
-      (Refused Coordinate (start + p1 .bad)))
-      (Refused Coordinate (start + p0 .bad))
+      (Refused Pieces (at + 4 + 13)))
+      (Refused Coordinate (at + 4 + p2 .bad)))
+      (Refused Coordinate (at + 4 + p1 .bad)))
+      (Refused Coordinate (at + 4 + p0 .bad))
   unfolding rowFound limitedFrom valuesFrom curveRow inLimits
-  curve-found p0 p1 p2 s h e f g k = rw (e, f, g, k, starts) (simp (eq-eqb (2 + length p) 16 (omega arith), in-turn, read-unless))
+  curve-found p0 p1 p2 s h e f g k = rw (e, f, g, k) (simp (eq-eqb (2 + length p) 16 (omega arith), in-turn, read-unless))

@@ -2,7 +2,6 @@
 use Prim.Native.Nat.{ℕ, _+_, _≤_}
 use mathlib.Core.Path.{_≡_, refl, sym, subst}
 use mathlib.Core.List.{List}
-use native.Mathlib.Omega.{arith}
 use lib.ListN.{length}
 use Rattle.sheet.proofs.Figures.{Sound, cell-in}
 use Rattle.record.specs.Layout.{Row, wordAt, lineRow, circleRow, ellipseRow, curveRow}
@@ -61,7 +60,7 @@ module _ (s : List ℕ) (at : ℕ) where
       (λ a b.
       let p = payloadAt s at in
       let made : (row : Row) → RowSound row p → Made IfFound (λ q o. tt) p at (at + 2 + wordAt s at) row =
-      λ row f l. record { here = refl; on = omega arith; inside = b; sound = f l } in
+      λ row f l. record { here = refl; on = a; inside = b; sound = f l } in
       kind-has IfFound (λ q o. tt) p _ _ _
       (made lineRow (line-sound p))
       (made circleRow (circle-sound p))

@@ -46,13 +46,17 @@ valueAt radius s k = pos (wordAt s k)
 valueAt axis s k = pos (wordAt s k)
 valueAt pieces s k = pos (getD s k 0)
 
--- Each record is its length, its kind and its payload. A field's place is the sum of the widths before it: where the kind and the
+abbrev pub widths : List Field → ℕ
+widths [] = 0
+widths (f ∷ fs) = width f + widths fs
+
+-- Each record is its length, its kind and its payload, and a field's place is the sum of the widths before it: where the kind and the
 -- payload start, in a record at an offset.
 abbrev pub kindPlace : ℕ → ℕ
-kindPlace at = at + width lengthWord
+kindPlace at = at + widths (lengthWord ∷ [])
 
 abbrev pub payloadPlace : ℕ → ℕ
-payloadPlace at = kindPlace at + width kindWord
+payloadPlace at = at + widths (lengthWord ∷ kindWord ∷ [])
 
 -- A row of the table: kind, length, payload, and the figure that the payload's values make.
 pub record Row : Type 0 where

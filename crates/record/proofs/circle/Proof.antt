@@ -5,7 +5,7 @@ use denote.Ref.{now}
 use borrow.Author.Needs.{needs}
 use Rattle.laws.proofs.Tests.{no, yes}
 use Rattle.record.specs.Layout.{circleRow}
-use Rattle.record.proofs.Rows.{after-4, bad-most, other-length, circle-found}
+use Rattle.record.proofs.Rows.{bad-most, other-length, circle-found}
 use Rattle.record.proofs.circle.Statement.{statement}
 use Rattle.record.proofs.circle.Tie as tie
 
@@ -28,7 +28,7 @@ add-t12 c =
 returns-2 : tie.Need-returns-2
 returns-2 c =
     let centre = c .before .before .before in
-    rw (circle-found _ _ _ _ (after-4 _) _ _ (centre .before .if1 .left) (centre .cell-at .ensures) refl)
+    rw (circle-found _ _ _ _ _ (centre .before .if1 .left) (centre .cell-at .ensures) refl)
     (simp (no (centre .cell-at .result .sound) _ refl (c .before .if2 .taken)))
 
 number-at-requires : tie.Need-number-at-requires
@@ -45,7 +45,7 @@ returns-3 : tie.Need-returns-3
 returns-3 c =
     let r = c .before .before in
     let centre = r .before .before .before in
-    rw (circle-found _ _ _ _ (after-4 _) _ _ (centre .before .if1 .left) (centre .cell-at .ensures) (r .number-at .ensures))
+    rw (circle-found _ _ _ _ _ (centre .before .if1 .left) (centre .cell-at .ensures) (r .number-at .ensures))
     (simp (yes (centre .cell-at .result .sound) _ refl (r .before .if2 .left), no (r .number-at .result .sound) _ refl (c .if3 .taken)))
 
 shared-slice-read-t17 : tie.Need-shared-slice-read-t17
@@ -55,7 +55,7 @@ returns-4 : tie.Need-returns-4
 returns-4 c =
     let r = c .before .before .before .before in
     let centre = r .before .before .before in
-    rw (circle-found _ _ _ _ (after-4 _) _ _ (centre .before .if1 .left) (centre .cell-at .ensures) (r .number-at .ensures))
+    rw (circle-found _ _ _ _ _ (centre .before .if1 .left) (centre .cell-at .ensures) (r .number-at .ensures))
     (simp (yes (centre .cell-at .result .sound) _ refl (r .before .if2 .left), yes (r .number-at .result .sound) _ refl (c .before .before .if3 .left)))
 
 pub circle-spec : {M : Type 1} → statement M

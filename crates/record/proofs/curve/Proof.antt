@@ -5,7 +5,7 @@ use denote.Ref.{now}
 use borrow.Author.Needs.{needs}
 use Rattle.laws.proofs.Tests.{no, yes}
 use Rattle.record.specs.Layout.{curveRow}
-use Rattle.record.proofs.Rows.{after-4, bad-most, other-length, curve-found}
+use Rattle.record.proofs.Rows.{bad-most, other-length, curve-found}
 use Rattle.record.proofs.curve.Statement.{statement}
 use Rattle.record.proofs.curve.Tie as tie
 
@@ -28,7 +28,7 @@ add-t16 c =
 returns-2 : tie.Need-returns-2
 returns-2 c =
     let p0 = c .before .before .before in
-    rw (curve-found _ _ _ _ (after-4 _) _ _ _ _ (p0 .before .if1 .left) (p0 .cell-at .ensures) refl refl refl)
+    rw (curve-found _ _ _ _ _ _ _ (p0 .before .if1 .left) (p0 .cell-at .ensures) refl refl refl)
     (simp (no (p0 .cell-at .result .sound) _ refl (c .before .if2 .taken)))
 
 cell-at-requires-2 : tie.Need-cell-at-requires-2
@@ -45,7 +45,7 @@ returns-3 : tie.Need-returns-3
 returns-3 c =
     let p1 = c .before .before .before in
     let p0 = p1 .before .before .before in
-    rw (curve-found _ _ _ _ (after-4 _) _ _ _ _ (p0 .before .if1 .left) (p0 .cell-at .ensures) (p1 .cell-at2 .ensures) refl refl)
+    rw (curve-found _ _ _ _ _ _ _ (p0 .before .if1 .left) (p0 .cell-at .ensures) (p1 .cell-at2 .ensures) refl refl)
     (simp (yes (p0 .cell-at .result .sound) _ refl (p1 .before .if2 .left), no (p1 .cell-at2 .result .sound) _ refl (c .before .if3 .taken)))
 
 cell-at-requires-3 : tie.Need-cell-at-requires-3
@@ -64,7 +64,7 @@ returns-4 c =
     let p2 = c .before .before .before in
     let p1 = p2 .before .before .before in
     let p0 = p1 .before .before .before in
-    rw (curve-found _ _ _ _ (after-4 _) _ _ _ _ (p0 .before .if1 .left) (p0 .cell-at .ensures) (p1 .cell-at2 .ensures) (p2 .cell-at3 .ensures) refl)
+    rw (curve-found _ _ _ _ _ _ _ (p0 .before .if1 .left) (p0 .cell-at .ensures) (p1 .cell-at2 .ensures) (p2 .cell-at3 .ensures) refl)
     (simp (yes (p0 .cell-at .result .sound) _ refl (p1 .before .if2 .left), yes (p1 .cell-at2 .result .sound) _ refl (p2 .before .if3 .left), no (p2 .cell-at3 .result .sound) _ refl (c .before .if4 .taken)))
 
 number-at-requires : tie.Need-number-at-requires
@@ -85,7 +85,7 @@ returns-5 c =
     let p2 = s .before .before .before in
     let p1 = p2 .before .before .before in
     let p0 = p1 .before .before .before in
-    rw (curve-found _ _ _ _ (after-4 _) _ _ _ _ (p0 .before .if1 .left) (p0 .cell-at .ensures) (p1 .cell-at2 .ensures) (p2 .cell-at3 .ensures) (s .number-at .ensures))
+    rw (curve-found _ _ _ _ _ _ _ (p0 .before .if1 .left) (p0 .cell-at .ensures) (p1 .cell-at2 .ensures) (p2 .cell-at3 .ensures) (s .number-at .ensures))
     (simp (yes (p0 .cell-at .result .sound) _ refl (p1 .before .if2 .left), yes (p1 .cell-at2 .result .sound) _ refl (p2 .before .if3 .left), yes (p2 .cell-at3 .result .sound) _ refl (s .before .if4 .left), no (s .number-at .result .sound) _ refl (c .if5 .taken)))
 
 shared-slice-read-t25 : tie.Need-shared-slice-read-t25
@@ -97,7 +97,7 @@ returns-6 c =
     let p2 = s .before .before .before in
     let p1 = p2 .before .before .before in
     let p0 = p1 .before .before .before in
-    rw (curve-found _ _ _ _ (after-4 _) _ _ _ _ (p0 .before .if1 .left) (p0 .cell-at .ensures) (p1 .cell-at2 .ensures) (p2 .cell-at3 .ensures) (s .number-at .ensures))
+    rw (curve-found _ _ _ _ _ _ _ (p0 .before .if1 .left) (p0 .cell-at .ensures) (p1 .cell-at2 .ensures) (p2 .cell-at3 .ensures) (s .number-at .ensures))
     (simp (yes (p0 .cell-at .result .sound) _ refl (p1 .before .if2 .left), yes (p1 .cell-at2 .result .sound) _ refl (p2 .before .if3 .left), yes (p2 .cell-at3 .result .sound) _ refl (s .before .if4 .left), yes (s .number-at .result .sound) _ refl (c .before .before .before .before .if5 .left)))
 
 pub curve-spec : {M : Type 1} → statement M

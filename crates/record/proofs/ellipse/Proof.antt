@@ -5,7 +5,7 @@ use denote.Ref.{now}
 use borrow.Author.Needs.{needs}
 use Rattle.laws.proofs.Tests.{no, yes}
 use Rattle.record.specs.Layout.{ellipseRow}
-use Rattle.record.proofs.Rows.{after-4, bad-most, other-length, ellipse-found}
+use Rattle.record.proofs.Rows.{bad-most, other-length, ellipse-found}
 use Rattle.record.proofs.ellipse.Statement.{statement}
 use Rattle.record.proofs.ellipse.Tie as tie
 
@@ -28,7 +28,7 @@ add-t13 c =
 returns-2 : tie.Need-returns-2
 returns-2 c =
     let centre = c .before .before .before in
-    rw (ellipse-found _ _ _ _ (after-4 _) _ _ _ (centre .before .if1 .left) (centre .cell-at .ensures) refl refl)
+    rw (ellipse-found _ _ _ _ _ _ (centre .before .if1 .left) (centre .cell-at .ensures) refl refl)
     (simp (no (centre .cell-at .result .sound) _ refl (c .before .if2 .taken)))
 
 number-at-requires : tie.Need-number-at-requires
@@ -45,7 +45,7 @@ returns-3 : tie.Need-returns-3
 returns-3 c =
     let a = c .before .before in
     let centre = a .before .before .before in
-    rw (ellipse-found _ _ _ _ (after-4 _) _ _ _ (centre .before .if1 .left) (centre .cell-at .ensures) (a .number-at .ensures) refl)
+    rw (ellipse-found _ _ _ _ _ _ (centre .before .if1 .left) (centre .cell-at .ensures) (a .number-at .ensures) refl)
     (simp (yes (centre .cell-at .result .sound) _ refl (a .before .if2 .left), no (a .number-at .result .sound) _ refl (c .if3 .taken)))
 
 number-at-requires-2 : tie.Need-number-at-requires-2
@@ -64,7 +64,7 @@ returns-4 c =
     let b = c .before .before in
     let a = b .before .before .before in
     let centre = a .before .before .before in
-    rw (ellipse-found _ _ _ _ (after-4 _) _ _ _ (centre .before .if1 .left) (centre .cell-at .ensures) (a .number-at .ensures) (b .number-at2 .ensures))
+    rw (ellipse-found _ _ _ _ _ _ (centre .before .if1 .left) (centre .cell-at .ensures) (a .number-at .ensures) (b .number-at2 .ensures))
     (simp (yes (centre .cell-at .result .sound) _ refl (a .before .if2 .left), yes (a .number-at .result .sound) _ refl (b .before .if3 .left), no (b .number-at2 .result .sound) _ refl (c .if4 .taken)))
 
 shared-slice-read-t20 : tie.Need-shared-slice-read-t20
@@ -75,7 +75,7 @@ returns-5 c =
     let b = c .before .before .before .before in
     let a = b .before .before .before in
     let centre = a .before .before .before in
-    rw (ellipse-found _ _ _ _ (after-4 _) _ _ _ (centre .before .if1 .left) (centre .cell-at .ensures) (a .number-at .ensures) (b .number-at2 .ensures))
+    rw (ellipse-found _ _ _ _ _ _ (centre .before .if1 .left) (centre .cell-at .ensures) (a .number-at .ensures) (b .number-at2 .ensures))
     (simp (yes (centre .cell-at .result .sound) _ refl (a .before .if2 .left), yes (a .number-at .result .sound) _ refl (b .before .if3 .left), yes (b .number-at2 .result .sound) _ refl (c .before .before .if4 .left)))
 
 pub ellipse-spec : {M : Type 1} → statement M

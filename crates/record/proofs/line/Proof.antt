@@ -5,7 +5,7 @@ use denote.Ref.{now}
 use borrow.Author.Needs.{needs}
 use Rattle.laws.proofs.Tests.{no, yes}
 use Rattle.record.specs.Layout.{lineRow}
-use Rattle.record.proofs.Rows.{after-4, bad-most, other-length, line-found}
+use Rattle.record.proofs.Rows.{bad-most, other-length, line-found}
 use Rattle.record.proofs.line.Statement.{statement}
 use Rattle.record.proofs.line.Tie as tie
 
@@ -28,7 +28,7 @@ add-t13 c =
 returns-2 : tie.Need-returns-2
 returns-2 c =
     let a = c .before .before .before in
-    rw (line-found _ _ _ _ (after-4 _) _ _ (a .before .if1 .left) (a .cell-at .ensures) refl)
+    rw (line-found _ _ _ _ _ (a .before .if1 .left) (a .cell-at .ensures) refl)
     (simp (no (a .cell-at .result .sound) _ refl (c .before .if2 .taken)))
 
 cell-at-requires-2 : tie.Need-cell-at-requires-2
@@ -45,7 +45,7 @@ returns-3 : tie.Need-returns-3
 returns-3 c =
     let b = c .before .before .before in
     let a = b .before .before .before in
-    rw (line-found _ _ _ _ (after-4 _) _ _ (a .before .if1 .left) (a .cell-at .ensures) (b .cell-at2 .ensures))
+    rw (line-found _ _ _ _ _ (a .before .if1 .left) (a .cell-at .ensures) (b .cell-at2 .ensures))
     (simp (yes (a .cell-at .result .sound) _ refl (b .before .if2 .left), no (b .cell-at2 .result .sound) _ refl (c .before .if3 .taken)))
 
 shared-slice-read-t17 : tie.Need-shared-slice-read-t17
@@ -55,7 +55,7 @@ returns-4 : tie.Need-returns-4
 returns-4 c =
     let b = c .before .before .before .before .before in
     let a = b .before .before .before in
-    rw (line-found _ _ _ _ (after-4 _) _ _ (a .before .if1 .left) (a .cell-at .ensures) (b .cell-at2 .ensures))
+    rw (line-found _ _ _ _ _ (a .before .if1 .left) (a .cell-at .ensures) (b .cell-at2 .ensures))
     (simp (yes (a .cell-at .result .sound) _ refl (b .before .if2 .left), yes (b .cell-at2 .result .sound) _ refl (c .before .before .before .if3 .left)))
 
 pub line-spec : {M : Type 1} → statement M
