@@ -2,7 +2,7 @@
 use Prim.Native.Nat.{ℕ, _<_}
 use mathlib.Core.Path.{_≡_, refl, sym, subst, ap, ap₂, _∙_}
 use mathlib.Core.List.{List, [], _∷_}
-use mathlib.Core.Bool.{Bool, true, false, _&&_}
+use mathlib.Core.Bool.{Bool, true, false}
 use native.Mathlib.Omega.{arith}
 use lib.Dec.{eqb}
 use lib.IntN.{ℤ, pos}
@@ -10,7 +10,7 @@ use lib.ListN.{length}
 use mir.Syntax.{w32}
 use mir.Val.{SFits, toZ, ofZ}
 use mir.Facts.{toZ-ofZ}
-use Rattle.sheet.specs.Sheet.{sized, sliced, cell}
+use Rattle.sheet.specs.Sheet.{cell}
 use Rattle.sheet.specs.Reply as reply
 use Rattle.sheet.specs.Reply.{Answer, number, refuse, unless, valueOf, settled}
 use Rattle.sheet.specs.Drawing.{ifSheet, Drawing, Draws}
@@ -18,7 +18,7 @@ use Rattle.sheet.specs.Inner.{fits}
 use Rattle.sheet.specs.declared.Cell.{Cell}
 use Rattle.sheet.specs.declared.Shape.{Shape}
 use Rattle.sheet.specs.declared.Refusal.{Refusal}
-use Rattle.sheet.specs.declared.Refusal.the-variants.{Size, Slice}
+use Rattle.sheet.proofs.Lent.{sheet-cases}
 use Rattle.sheet.proofs.Unique.{number-not-0}
 use Rattle.line.specs.Listing.{listAnswer, ListsInto}
 use Rattle.pistonwool.specs.Told.{numbered, counted, Keeps}
@@ -37,8 +37,7 @@ unless-tells true r a h = h refl
 unless-tells false r a h = refused r
 
 pub sheet-tells : {P : List ℤ → Type 0} (k : Shape) (n : ℕ) (a : Answer) → (fits k n ≡ true → Tells P a) → Tells P (ifSheet k n a)
-unfolding ifSheet fits
-sheet-tells k n a h = unless-tells (sized k) Size _ (λ s. unless-tells (sliced k n) Slice a (λ t. h (ap₂ _&&_ s t)))
+sheet-tells {P} k n a h = sheet-cases k n (Tells P) a refused h
 
 -- with none: C is told the number
 abbrev pub None : List ℤ → Type 0

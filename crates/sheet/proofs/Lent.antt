@@ -7,10 +7,11 @@ use lib.IntN.{ℤ}
 use lib.ListN.{length}
 use Rattle.laws.proofs.Tests.{no, yes}
 use Rattle.sheet.specs.Sheet.{sized, sliced}
-use Rattle.sheet.specs.Reply.{Answer, done, isDone, unless}
+use Rattle.sheet.specs.Reply.{Answer, done, refuse, isDone, unless}
 use Rattle.sheet.specs.Drawing.{ifSheet, Drawing, Draws}
 use Rattle.sheet.specs.Inner.{fits}
 use Rattle.sheet.specs.declared.Shape.{Shape}
+use Rattle.sheet.specs.declared.Refusal.{Refusal}
 use Rattle.sheet.specs.declared.Refusal.the-variants.{Size, Slice}
 use Rattle.sheet.proofs.Draws.{keeps}
 
@@ -42,11 +43,21 @@ done-alike true true v w = refl
 done-alike true false v w = refl
 done-alike false t v w = refl
 
+cases-after : (P : Answer → Type 0) (s t : Bool) (next : Answer) → ((r : Refusal) → P (refuse r)) → ((s && t) ≡ true → P next) → P (after s t next)
+cases-after P true true next refused follows = follows refl
+cases-after P true false next refused follows = refused Slice
+cases-after P false t next refused follows = refused Size
+
 module _ (k : Shape) (n : ℕ) where
   -- on a sheet what follows is the answer
   pub if-sheet : fits k n ≡ true → (next : Answer) → ifSheet k n next ≡ next
   unfolding ifSheet fits
   if-sheet e next = both-passed (sized k) (sliced k n) next e
+
+  -- what holds of every refusal, and of what follows on a sheet, holds of the answer
+  pub sheet-cases : (P : Answer → Type 0) (next : Answer) → ((r : Refusal) → P (refuse r)) → (fits k n ≡ true → P next) → P (ifSheet k n next)
+  unfolding ifSheet fits
+  sheet-cases P next refused follows = cases-after P (sized k) (sliced k n) next refused follows
 
   -- tested again, it comes to the same
   pub sheet-again : (next : Answer) → ifSheet k n (ifSheet k n next) ≡ ifSheet k n next
