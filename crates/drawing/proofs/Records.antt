@@ -87,7 +87,7 @@ contents-valued : (c : Contents) → ofFile (contentsAnswer c) ≡ contentsAnswe
 contents-valued (holds rs) = refl
 contents-valued (refuses q at) = refl
 
-pub file-valued : (s : List ℕ) → ofFile (fileAnswer s) ≡ fileAnswer s
+file-valued : (s : List ℕ) → ofFile (fileAnswer s) ≡ fileAnswer s
 unfolding fileAnswer
 file-valued s = contents-valued (readAll s)
 

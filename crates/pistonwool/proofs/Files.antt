@@ -2,7 +2,6 @@
 use Prim.Native.Nat.{ℕ}
 use mathlib.Core.Path.{_≡_, sym, subst, ap, _∙_}
 use mathlib.Core.List.{List}
-use lib.ListN.{length}
 use Rattle.sheet.specs.Reply.{Answer, valueOf}
 use Rattle.sheet.specs.Drawing.{Draws}
 use Rattle.sheet.specs.declared.Shape.{Shape}

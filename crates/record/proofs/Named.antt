@@ -11,7 +11,7 @@ use lib.ListN.{length, length-take, length-drop}
 use Rattle.sheet.specs.Sheet as sheet
 use Rattle.sheet.specs.declared.Refusal.{Refusal}
 use Rattle.record.specs.Layout.{Field, lengthWord, kindWord, ink, coordinate, radius, axis, pieces, Row, wordAt, width, valueAt, widths, payloadPlace, lineRow, circleRow, ellipseRow, curveRow, table}
-use Rattle.record.specs.Reading.{Found, found, end, refused, unlessAt, limited, limitedFrom, valuesFrom, rowFound, kindFound, payloadAt, foundAt, readOf, readAt}
+use Rattle.record.specs.Reading.{Found, found, end, refused, unlessAt, limited, limitedFrom, rowFound, kindFound, payloadAt, foundAt, readOf, readAt}
 use Rattle.record.specs.File.{Contents, holds, refuses, also, onward, readIn, readFrom, readAll}
 use Rattle.record.specs.declared.types.Record.{Record}
 use Rattle.record.specs.declared.types.Read.{Read}

@@ -1,4 +1,4 @@
--- Document 01, "Record file": what stands at an offset of a file.
+-- Document 01, "Record file", with K6 of document 02: what stands at an offset of a file.
 use Prim.Native.Nat.{ℕ, _+_, _-_}
 use mathlib.Core.List.{List, [], _∷_}
 use mathlib.Core.Bool.{Bool, cond}

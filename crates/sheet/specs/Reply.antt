@@ -1,4 +1,4 @@
--- Document 01, "Reply numbers": the table, and what a reply is.
+-- Document 01, "Reply numbers", with those of document 02: the table, and what a reply is.
 use Prim.Native.Nat.{ℕ}
 use mathlib.Core.List.{List, [], _∷_}
 use mathlib.Core.Bool.{Bool, cond}

@@ -1,13 +1,31 @@
 -- `record::ellipse` meets its contract.
-use mathlib.Core.Path.{refl}
+use Prim.Native.Nat.{_+_, _<_, _^_}
+use mathlib.Core.Path.{_≡_, refl}
+use mathlib.Core.Bool.{true}
 use native.Mathlib.Omega.{arith}
 use denote.Ref.{now}
+use mir.Syntax.{w64}
+use mir.Val.{bits}
 use borrow.Author.Needs.{needs}
 use Rattle.laws.proofs.Tests.{no, yes}
 use Rattle.record.specs.Layout.{ellipseRow}
 use Rattle.record.proofs.Rows.{bad-most, other-length, ellipse-found}
 use Rattle.record.proofs.ellipse.Statement.{statement}
 use Rattle.record.proofs.ellipse.Tie as tie
+
+-- the offset after the payload is one
+ends : (c : tie.Else1) → c .before .before .args .at + 13 < 2 ^ bits w64
+ends c = let start = c .before .before in omega (arith, start .pre, start .fits .next .fits, c .if1 .left)
+
+-- what each test showed
+centre-in : (c : tie.Else2) → c .before .before .cell-at .result .sound ≡ true
+centre-in c = yes (c .before .before .cell-at .result .sound) _ refl (c .if2 .left)
+
+a-in : (c : tie.Else3) → c .before .before .number-at .result .sound ≡ true
+a-in c = yes (c .before .before .number-at .result .sound) _ refl (c .if3 .left)
+
+b-in : (c : tie.Else4) → c .before .before .number-at2 .result .sound ≡ true
+b-in c = yes (c .before .before .number-at2 .result .sound) _ refl (c .if4 .left)
 
 returns : tie.Need-returns
 unfolding ellipseRow
@@ -22,8 +40,8 @@ cell-at-requires c κs = search needs
 add-t13 : tie.Need-add-t13
 add-t13 c =
     let centre = c .before .before .before in
-    let start = centre .before .before .before in
-    omega (arith, bad-most (now (start .args .payload)) 1 (centre .cell-at .result) (centre .cell-at .ensures), start .pre, start .fits .next .fits, centre .before .if1 .left)
+    let payload = now (centre .before .before .before .args .payload) in
+    omega (arith, ends (centre .before), bad-most payload 1 (centre .cell-at .result) (centre .cell-at .ensures))
 
 returns-2 : tie.Need-returns-2
 returns-2 c =
@@ -38,15 +56,14 @@ add-t16 : tie.Need-add-t16
 add-t16 c =
     let a = c .before .before in
     let centre = a .before .before .before in
-    let start = centre .before .before .before in
-    omega (arith, start .pre, start .fits .next .fits, centre .before .if1 .left)
+    omega (arith, ends (centre .before))
 
 returns-3 : tie.Need-returns-3
 returns-3 c =
     let a = c .before .before in
     let centre = a .before .before .before in
     rw (ellipse-found _ _ _ _ _ _ (centre .before .if1 .left) (centre .cell-at .ensures) (a .number-at .ensures) refl)
-    (simp (yes (centre .cell-at .result .sound) _ refl (a .before .if2 .left), no (a .number-at .result .sound) _ refl (c .if3 .taken)))
+    (simp (centre-in (a .before), no (a .number-at .result .sound) _ refl (c .if3 .taken)))
 
 number-at-requires-2 : tie.Need-number-at-requires-2
 number-at-requires-2 c κs = search needs
@@ -56,8 +73,7 @@ add-t18 c =
     let b = c .before .before in
     let a = b .before .before .before in
     let centre = a .before .before .before in
-    let start = centre .before .before .before in
-    omega (arith, start .pre, start .fits .next .fits, centre .before .if1 .left)
+    omega (arith, ends (centre .before))
 
 returns-4 : tie.Need-returns-4
 returns-4 c =
@@ -65,7 +81,7 @@ returns-4 c =
     let a = b .before .before .before in
     let centre = a .before .before .before in
     rw (ellipse-found _ _ _ _ _ _ (centre .before .if1 .left) (centre .cell-at .ensures) (a .number-at .ensures) (b .number-at2 .ensures))
-    (simp (yes (centre .cell-at .result .sound) _ refl (a .before .if2 .left), yes (a .number-at .result .sound) _ refl (b .before .if3 .left), no (b .number-at2 .result .sound) _ refl (c .if4 .taken)))
+    (simp (centre-in (a .before), a-in (b .before), no (b .number-at2 .result .sound) _ refl (c .if4 .taken)))
 
 shared-slice-read-t20 : tie.Need-shared-slice-read-t20
 shared-slice-read-t20 c = search needs
@@ -76,7 +92,7 @@ returns-5 c =
     let a = b .before .before .before in
     let centre = a .before .before .before in
     rw (ellipse-found _ _ _ _ _ _ (centre .before .if1 .left) (centre .cell-at .ensures) (a .number-at .ensures) (b .number-at2 .ensures))
-    (simp (yes (centre .cell-at .result .sound) _ refl (a .before .if2 .left), yes (a .number-at .result .sound) _ refl (b .before .if3 .left), yes (b .number-at2 .result .sound) _ refl (c .before .before .if4 .left)))
+    (simp (centre-in (a .before), a-in (b .before), b-in (c .before .before)))
 
 pub ellipse-spec : {M : Type 1} → statement M
 ellipse-spec =

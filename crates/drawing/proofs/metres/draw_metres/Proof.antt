@@ -58,7 +58,9 @@ returns-3 c =
     let a = asked .before .before .before .args in
     let n = length (now (a .sheet)) in
     let is = found (a .survey) (a .figure) _ _ (cells .to-cells .ensures) (chosen .refusal .given .1) in
-    refuses _ _ (chosen .refusal .given .0 .0) (ap (λ (i : InCells). cellsDrawing (a .shape) (a .ink) i .answer n) (sym is) ∙ if-sheet (a .shape) n (is-sheet _ _ _ _ (asked .before .check .ensures) (asked .is-done .ensures) (tested .if1 .left)) _)
+    let fitted = is-sheet _ _ _ _ (asked .before .check .ensures) (asked .is-done .ensures) (tested .if1 .left) in
+    refuses _ _ (chosen .refusal .given .0 .0)
+    (ap (λ (i : InCells). cellsDrawing (a .shape) (a .ink) i .answer n) (sym is) ∙ if-sheet (a .shape) n fitted _)
 
 pub draw-metres-spec : {M : Type 1} → statement M
 draw-metres-spec =
