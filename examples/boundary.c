@@ -43,5 +43,11 @@ int main(void) {
     /* nothing is tested before a call: what cannot be drawn is refused by number, and nothing is written */
     printf("an end at 16,384 is refused with %u\n", pw_line(hill, sizeof hill, WIDTH, HEIGHT, 1, 0, 0, 16384, 0, &cells));
     printf("a sheet one byte short is refused with %u\n", pw_line(hill, sizeof hill - 1, WIDTH, HEIGHT, 1, 0, 0, 1, 0, &cells));
+
+    /* a record file says which field is wrong: here the last of a line, its y1 */
+    const uint8_t file[] = {11, 0, 1, 0, 1, 0, 0, 7, 0, 15, 0, 0, 64};
+    uint64_t value = 0;
+    uint32_t number = pw_file(hill, sizeof hill, WIDTH, HEIGHT, file, sizeof file, &value);
+    printf("a file with an end at 16,384 is refused with %u at offset %u\n", number, (unsigned)value);
     return 0;
 }

@@ -14,6 +14,15 @@ extern "C" {
         y1: i32,
         cells: *mut u32,
     ) -> u32;
+    fn pw_file(
+        sheet: *mut u8,
+        len: usize,
+        width: u32,
+        height: u32,
+        file: *const u8,
+        n: usize,
+        value: *mut u64,
+    ) -> u32;
     fn pw_pen_begin(pen: *mut Pen, x0: i32, y0: i32, x1: i32, y1: i32) -> u32;
     fn pw_pen_next(pen: *mut Pen, x: *mut i32, y: *mut i32) -> u32;
 }
@@ -48,6 +57,28 @@ fn line(sheet: &mut [u8], from: (i32, i32), to: (i32, i32)) -> Result<u32, u32> 
         Ok(cells)
     } else {
         Err(reply)
+    }
+}
+
+/// Draws a record file: its number of records, or the refusal's number and the offset of the field that it names.
+fn file(sheet: &mut [u8], file: &[u8]) -> Result<u64, (u32, u64)> {
+    let mut value = 0;
+    // SAFETY: as in `line`; the file is only read.
+    let reply = unsafe {
+        pw_file(
+            sheet.as_mut_ptr(),
+            sheet.len(),
+            WIDTH,
+            HEIGHT,
+            file.as_ptr(),
+            file.len(),
+            &mut value,
+        )
+    };
+    if reply == 0 {
+        Ok(value)
+    } else {
+        Err((reply, value))
     }
 }
 
@@ -106,4 +137,7 @@ fn main() {
         "a sheet one byte short is refused with {}",
         line(&mut hill[..127], (0, 0), (1, 0)).unwrap_err()
     );
+    let (number, offset) =
+        file(&mut hill, &[11, 0, 1, 0, 1, 0, 0, 7, 0, 15, 0, 0, 64]).unwrap_err();
+    println!("a file with an end at 16,384 is refused with {number} at offset {offset}");
 }
