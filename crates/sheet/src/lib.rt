@@ -93,7 +93,7 @@ pub enum Reply {
     // how many: a line's cells on the sheet, those listed, a file's records
     Counted(usize),
     Refused(Refusal),
-    // and the offset of what is refused in a file
+    // and the offset in a file of the field that it names
     RefusedAt(Refusal, usize),
 }
 
@@ -137,7 +137,7 @@ fn is_size(n: u32) -> bool
     (1 <= n) & (n <= 4096)
 }
 
-// Tests a sheet: done, where a slice of this many bytes is one of the shape.
+// Tests a sheet, as every drawing does first: done, where a slice of this many bytes is one of the shape.
 pub fn check(shape: Shape, bytes: usize) -> Reply
     ensures { λ r. ⌜ told r ≡ ifSheet shape bytes (done []) ⌝ }
 {
