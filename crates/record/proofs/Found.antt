@@ -1,16 +1,16 @@
 -- A property of what stands at an offset, from the places where that is made.
-use Prim.Native.Nat.{ℕ, _+_, _-_, _≤_}
+use Prim.Native.Nat.{ℕ, _+_, _-_, _≤_, _<_}
 use mathlib.Core.Path.{_≡_, refl}
 use mathlib.Core.List.{List, [], _∷_}
 use mathlib.Core.Bool.{Bool, true, false, cond}
 use native.Mathlib.Omega.{arith}
-use borrow.Author.Tests.{leb-true, leb-false}
+use borrow.Author.Tests.{leb-true, leb-false, eqb-true}
 use lib.Dec.{leb, eqb}
 use lib.IntN.{ℤ, natAbs}
-use lib.ListN.{length}
+use lib.ListN.{length, length-take, length-drop}
 use Rattle.sheet.specs.Sheet as sheet
 use Rattle.sheet.specs.declared.Refusal.{Refusal}
-use Rattle.record.specs.Layout.{Field, lengthWord, kindWord, ink, coordinate, radius, axis, pieces, Row, wordAt, width, valueAt, kindPlace, payloadPlace, lineRow, circleRow, ellipseRow, curveRow, table}
+use Rattle.record.specs.Layout.{Field, lengthWord, kindWord, ink, coordinate, radius, axis, pieces, Row, wordAt, width, valueAt, widths, kindPlace, payloadPlace, lineRow, circleRow, ellipseRow, curveRow, table}
 use Rattle.record.specs.Reading.{Found, found, end, refused, unlessAt, valuesFrom, limited, limitedFrom, rowFound, kindFound, payloadAt, foundAt}
 
 -- a field's value within its limits, and those of fields that follow each other from k on
@@ -27,58 +27,77 @@ unfoldable pub LimitedFrom : List Field → List ℕ → ℕ → Type 0
 LimitedFrom [] p k = Unit {0}
 LimitedFrom (g ∷ fs) p k = Limited g (valueAt g p k) × LimitedFrom fs p (k + width g)
 
-module _ (P : Found → Type 0) (no : (r : Refusal) (at : ℕ) → P (refused r at)) where
+has-bytes : (g : Field) → 1 ≤ width g
+has-bytes lengthWord = omega arith
+has-bytes kindWord = omega arith
+has-bytes ink = omega arith
+has-bytes coordinate = omega arith
+has-bytes radius = omega arith
+has-bytes axis = omega arith
+has-bytes pieces = omega arith
+
+-- of a record at an offset, in a file of n bytes: what a refusal names is a byte of the file, at or after the record's first
+module _ (at n : ℕ) (P : Found → Type 0) (no : (r : Refusal) (o : ℕ) → at ≤ o → o < n → P (refused r o)) where
   by-test : (t : Bool) (f g : Found) → (t ≡ true → P f) → (t ≡ false → P g) → P (cond t f g)
   by-test true f g a b = a refl
   by-test false f g a b = b refl
 
-  passing : (t : Bool) (r : Refusal) (at : ℕ) (f : Found) → (t ≡ true → P f) → P (unlessAt t r at f)
-  passing t r at f h = by-test t f (refused r at) h (λ e. no r at)
+  passing : (t : Bool) (r : Refusal) (o : ℕ) (f : Found) → at ≤ o → o < n → (t ≡ true → P f) → P (unlessAt t r o f)
+  passing t r o f a b h = by-test t f (refused r o) h (λ e. no r o a b)
 
-  limited-has : (g : Field) (z : ℤ) (at : ℕ) (f : Found) → (Limited g z → P f) → P (limited g z at f)
-  limited-has lengthWord z at f h = h tt
-  limited-has kindWord z at f h = h tt
-  limited-has ink z at f h = h tt
-  limited-has coordinate z at f h = passing (sheet.coordinate z) _ at f h
-  limited-has radius z at f h = passing (sheet.radius (natAbs z)) _ at f h
-  limited-has axis z at f h = passing (sheet.semiAxis (natAbs z)) _ at f h
-  limited-has pieces z at f h = passing (sheet.split (natAbs z)) _ at f h
+  limited-has : (g : Field) (z : ℤ) (o : ℕ) (f : Found) → at ≤ o → o < n → (Limited g z → P f) → P (limited g z o f)
+  limited-has lengthWord z o f a b h = h tt
+  limited-has kindWord z o f a b h = h tt
+  limited-has ink z o f a b h = h tt
+  limited-has coordinate z o f a b h = passing (sheet.coordinate z) _ o f a b h
+  limited-has radius z o f a b h = passing (sheet.radius (natAbs z)) _ o f a b h
+  limited-has axis z o f a b h = passing (sheet.semiAxis (natAbs z)) _ o f a b h
+  limited-has pieces z o f a b h = passing (sheet.split (natAbs z)) _ o f a b h
 
-  fields-have : (fs : List Field) (p : List ℕ) (k start : ℕ) (f : Found) → (LimitedFrom fs p k → P f) → P (limitedFrom fs p k start f)
+  fields-have : (fs : List Field) (p : List ℕ) (k start : ℕ) (f : Found) → at ≤ start → start + k + widths fs ≤ n
+      → (LimitedFrom fs p k → P f) → P (limitedFrom fs p k start f)
   unfolding limitedFrom LimitedFrom
-  fields-have [] p k start f h = h tt
-  fields-have (g ∷ fs) p k start f h = limited-has g (valueAt g p k) (start + k) _ (λ a. fields-have fs p (k + width g) start f (λ b. h (a, b)))
+  fields-have [] p k start f a b h = h tt
+  fields-have (g ∷ fs) p k start f a b h =
+      let w = has-bytes g in
+      limited-has g (valueAt g p k) (start + k) _ (omega arith) (omega arith)
+      (λ l. fields-have fs p (k + width g) start f a (omega arith) (λ m. h (l, m)))
 
-  module _ (p : List ℕ) (at next : ℕ) where
+  module _ (p : List ℕ) (next : ℕ) (inside : payloadPlace at + length p ≤ n) where
     -- a record of a row, where its fields are within their limits
     abbrev pub Made : Row → Type 0
     Made row = LimitedFrom (row .payload) p 0 → P (found at next row (valuesFrom (row .payload) p 0))
 
-    row-has : (row : Row) → Made row → P (rowFound row p at next)
+    row-has : (row : Row) → row .length ≡ widths (kindWord ∷ row .payload) → Made row → P (rowFound row p at next)
     unfolding rowFound
-    row-has row h = passing (eqb (width kindWord + length p) (row .length)) _ at _ (λ e. fields-have (row .payload) p 0 (payloadPlace at) _ h)
+    row-has row l h =
+        passing (eqb (width kindWord + length p) (row .length)) _ at _ (omega arith) (omega arith)
+        (λ e. let m = eqb-true (width kindWord + length p) (row .length) e in fields-have (row .payload) p 0 (payloadPlace at) _ (omega arith) (omega arith) h)
 
     pub kind-has : (kind : ℕ) → Made lineRow → Made circleRow → Made ellipseRow → Made curveRow → P (kindFound table kind p at next)
-    unfolding kindFound table
+    unfolding kindFound table lineRow circleRow ellipseRow curveRow
     kind-has kind a b c d =
-        by-test (eqb kind (lineRow .kind)) _ _ (λ e. row-has lineRow a)
-        (λ e. by-test (eqb kind (circleRow .kind)) _ _ (λ e. row-has circleRow b)
-        (λ e. by-test (eqb kind (ellipseRow .kind)) _ _ (λ e. row-has ellipseRow c)
-        (λ e. by-test (eqb kind (curveRow .kind)) _ _ (λ e. row-has curveRow d) (λ e. no _ _))))
+        by-test (eqb kind (lineRow .kind)) _ _ (λ e. row-has lineRow refl a)
+        (λ e. by-test (eqb kind (circleRow .kind)) _ _ (λ e. row-has circleRow refl b)
+        (λ e. by-test (eqb kind (ellipseRow .kind)) _ _ (λ e. row-has ellipseRow refl c)
+        (λ e. by-test (eqb kind (curveRow .kind)) _ _ (λ e. row-has curveRow refl d) (λ e. no _ _ (omega arith) (omega arith)))))
 
-  pub found-has : (s : List ℕ) (at : ℕ) → P end
-      → (payloadPlace at ≤ kindPlace at + wordAt s at → kindPlace at + wordAt s at ≤ length s
+module _ (s : List ℕ) (at : ℕ) (P : Found → Type 0) (no : (r : Refusal) (o : ℕ) → at ≤ o → o < length s → P (refused r o)) where
+  pub found-has : P end
+      → (payloadPlace at ≤ kindPlace at + wordAt s at → kindPlace at + wordAt s at ≤ length s → payloadPlace at + length (payloadAt s at) ≤ length s
       → P (kindFound table (wordAt s (kindPlace at)) (payloadAt s at) at (kindPlace at + wordAt s at)))
       → P (foundAt s at)
   unfolding foundAt
-  found-has s at h k =
-      by-test (leb (length s) at) _ _ (λ e. h)
-      (λ e. passing (leb 2 (length s - at)) _ at _
-      (λ f. passing (leb (wordAt s at) (length s - at - 2)) _ at _
-      (λ g. passing (leb 2 (wordAt s at)) _ at _
-      (λ i.
+  found-has h k =
+      let tests = passing at (length s) P no in
+      by-test at (length s) P no (leb (length s) at) _ _ (λ e. h)
+      (λ e.
       let a = leb-false (length s) at e in
+      tests (leb 2 (length s - at)) _ at _ (omega arith) (omega arith)
+      (λ f. tests (leb (wordAt s at) (length s - at - 2)) _ at _ (omega arith) (omega arith)
+      (λ g. tests (leb 2 (wordAt s at)) _ at _ (omega arith) (omega arith)
+      (λ i.
       let b = leb-true 2 (length s - at) f in
       let c = leb-true (wordAt s at) (length s - at - 2) g in
       let d = leb-true 2 (wordAt s at) i in
-      k (omega arith) (omega arith)))))
+      k (omega arith) (omega arith) (simp (length-take, length-drop) (omega arith))))))

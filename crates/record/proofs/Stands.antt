@@ -1,11 +1,12 @@
 -- A record that was read: it moves on by 4 bytes at least, not past the file's end, and its figure is within the limits.
-use Prim.Native.Nat.{ℕ, _+_, _≤_}
+use Prim.Native.Nat.{ℕ, _+_, _≤_, _<_}
 use mathlib.Core.Path.{_≡_, refl, sym, subst}
 use mathlib.Core.List.{List}
 use lib.ListN.{length}
+use Rattle.sheet.specs.declared.Refusal.{Refusal}
 use Rattle.sheet.proofs.Figures.{Sound, cell-in}
-use Rattle.record.specs.Layout.{Row, wordAt, lineRow, circleRow, ellipseRow, curveRow}
-use Rattle.record.specs.Reading.{Found, valuesFrom, payloadAt, readOf, readAt}
+use Rattle.record.specs.Layout.{Row, wordAt, kindPlace, lineRow, circleRow, ellipseRow, curveRow}
+use Rattle.record.specs.Reading.{Found, refused, valuesFrom, payloadAt, readOf, readAt}
 use Rattle.record.specs.declared.types.Record.{Record}
 use Rattle.record.specs.declared.types.Read.{Read}
 use Rattle.record.specs.declared.types.Read.the-variants as read
@@ -56,12 +57,13 @@ module _ (s : List ℕ) (at : ℕ) where
   if-record : IfRecord (readAt s at)
   unfolding readAt
   if-record =
-      found-has IfFound (λ q o. tt) s at tt
-      (λ a b.
+      let no : (q : Refusal) (o : ℕ) → at ≤ o → o < length s → IfFound (refused q o) = λ q o a b. tt in
+      found-has s at IfFound no tt
+      (λ a b i.
       let p = payloadAt s at in
-      let made : (row : Row) → RowSound row p → Made IfFound (λ q o. tt) p at (at + 2 + wordAt s at) row =
+      let made : (row : Row) → RowSound row p → Made at (length s) IfFound no p (kindPlace at + wordAt s at) i row =
       λ row f l. record { here = refl; on = a; inside = b; sound = f l } in
-      kind-has IfFound (λ q o. tt) p _ _ _
+      kind-has at (length s) IfFound no p _ i _
       (made lineRow (line-sound p))
       (made circleRow (circle-sound p))
       (made ellipseRow (ellipse-sound p))
