@@ -1,15 +1,24 @@
 /* Pistonwool: drawing on a sheet of cells, for C and C++.
  *
- * A sheet is width x height bytes, row after row: cell (x, y) is byte y * width + x.
- * Limits: width and height 1 to 4,096; coordinates -16,384 to 16,383; radius 0 to 16,383; semi-axes 1 to 16,383; s 0 to 6.
+ * A sheet is height rows, pitch bytes from one to the next: cell (x, y) is byte y * pitch + x. Its length is exactly
+ * pitch x height; what a row has after its width is padding, and no call changes it. Rows with none have the width as pitch.
+ * Limits: width and height 1 to 4,096; pitch from width to 8,192; coordinates -16,384 to 16,383; radius 0 to 16,383;
+ * semi-axes 1 to 16,383; s 0 to 6.
  * Drawing sets each of a figure's cells that lies on the sheet to the ink and leaves every other byte as it was.
+ *
+ * A window, a part of a larger sheet of this pitch that begins at (x, y) and is w by h, is a sheet too (examples/window.c):
+ *     pw_line(sheet + (size_t)y * pitch + x, (size_t)pitch * h, w, h, pitch, ink, ...)
+ * Its length counts its last row whole, so one that ends in the larger sheet's last row can be lent only if x is 0, or if x
+ * more bytes follow the larger sheet.
+ *
  * Every function but pw_pen_next answers a number of enum pw_reply. Any number other than PW_DONE is a refusal; a
  * refusal leaves every byte and every number that was lent as it was, but for the offset that pw_file tells.
  *
  * Pointers must not be null, not even with length 0, must point to as many elements as the length after them says, and
  * must not overlap.
  * For figures in metres the calling thread must round doubles to nearest and keep denormals (pw_floats_sound tells).
- * Threads: there is no shared state, so any number of threads may call at once on different buffers.
+ * Threads: there is no shared state, so any number of threads may call at once on different buffers. Two windows of one
+ * larger sheet are not different buffers, as each may have cells of the other in its padding.
  * Only for 64-bit machines, where a size_t has 8 bytes. */
 #ifndef PISTONWOOL_H
 #define PISTONWOOL_H
@@ -18,7 +27,7 @@
 #include <stdint.h>
 
 /* the version of this header and of the library installed with it */
-#define PW_VERSION "0.1.0"
+#define PW_VERSION "0.2.0"
 
 #if SIZE_MAX != UINT64_MAX
 #error "Pistonwool is for 64-bit machines only"
@@ -33,7 +42,7 @@ extern "C" {
 enum pw_reply {
     /* done */
     PW_DONE = 0,
-    /* a sheet size outside 1 to 4,096 */
+    /* a width or height outside 1 to 4,096, or a pitch below the width or above 8,192 */
     PW_SIZE = 1,
     /* a coordinate outside -16,384 to 16,383 */
     PW_COORDINATE = 2,
@@ -53,27 +62,27 @@ enum pw_reply {
     PW_KIND = 9,
     /* a record length that is not that of its kind */
     PW_LENGTH = 10,
-    /* a slice length other than width x height */
+    /* a slice length other than pitch x height */
     PW_SLICE = 15,
     /* a record length under 2, which leaves no room for a kind */
     PW_KINDLESS = 16
 };
 
 /* Draws the line from (x0, y0) to (x1, y1). *cells is then its number of cells on the sheet. */
-uint32_t pw_line(uint8_t *sheet, size_t len, uint32_t width, uint32_t height, uint8_t ink,
+uint32_t pw_line(uint8_t *sheet, size_t len, uint32_t width, uint32_t height, uint32_t pitch, uint8_t ink,
                  int32_t x0, int32_t y0, int32_t x1, int32_t y1, uint32_t *cells);
 
 /* Draws the circle of radius r about (x, y). */
-uint32_t pw_circle(uint8_t *sheet, size_t len, uint32_t width, uint32_t height, uint8_t ink,
+uint32_t pw_circle(uint8_t *sheet, size_t len, uint32_t width, uint32_t height, uint32_t pitch, uint8_t ink,
                    int32_t x, int32_t y, uint32_t r);
 
 /* Draws the ellipse of semi-axes a along x and b along y about (x, y). */
-uint32_t pw_ellipse(uint8_t *sheet, size_t len, uint32_t width, uint32_t height, uint8_t ink,
+uint32_t pw_ellipse(uint8_t *sheet, size_t len, uint32_t width, uint32_t height, uint32_t pitch, uint8_t ink,
                     int32_t x, int32_t y, uint32_t a, uint32_t b);
 
 /* Draws the quadratic Bezier curve with these control points, split into 2^s pieces. Its joined points need no limits of
  * their own: PW_COORDINATE speaks of the control points. */
-uint32_t pw_curve(uint8_t *sheet, size_t len, uint32_t width, uint32_t height, uint8_t ink,
+uint32_t pw_curve(uint8_t *sheet, size_t len, uint32_t width, uint32_t height, uint32_t pitch, uint8_t ink,
                   int32_t x0, int32_t y0, int32_t x1, int32_t y1, int32_t x2, int32_t y2, uint32_t s);
 
 /* Lists the cells of the line from (x0, y0) to (x1, y1) in that order, x into xs and y into ys. *cells is then how many
@@ -99,7 +108,7 @@ uint32_t pw_pen_next(struct pw_pen *pen, int32_t *x, int32_t *y);
 /* Draws a record file of n bytes. *value is then its number of records; or, of a refusal, the offset in the file of the
  * offending field's first byte: the length for 8, 10 and 16, the kind for 9, the first bad field for 2, 3 and 4; 0 for 1
  * and 15, which speak of the sheet. A file that is refused draws nothing. */
-uint32_t pw_file(uint8_t *sheet, size_t len, uint32_t width, uint32_t height,
+uint32_t pw_file(uint8_t *sheet, size_t len, uint32_t width, uint32_t height, uint32_t pitch,
                  const uint8_t *file, size_t n, uint64_t *value);
 
 /* The same figures in metres, by a survey: the origins east and north, and the size of a cell.
@@ -118,16 +127,16 @@ static inline int pw_floats_sound(void) {
 }
 
 /* Draws the line from (x0, y0) to (x1, y1). *cells is then its number of cells on the sheet. */
-uint32_t pw_line_metres(uint8_t *sheet, size_t len, uint32_t width, uint32_t height, uint8_t ink,
+uint32_t pw_line_metres(uint8_t *sheet, size_t len, uint32_t width, uint32_t height, uint32_t pitch, uint8_t ink,
                         double east, double north, double size,
                         double x0, double y0, double x1, double y1, uint32_t *cells);
 
 /* Draws the circle of radius r about (x, y). */
-uint32_t pw_circle_metres(uint8_t *sheet, size_t len, uint32_t width, uint32_t height, uint8_t ink,
+uint32_t pw_circle_metres(uint8_t *sheet, size_t len, uint32_t width, uint32_t height, uint32_t pitch, uint8_t ink,
                           double east, double north, double size, double x, double y, double r);
 
 /* Draws the ellipse of semi-axes a along x and b along y about (x, y). */
-uint32_t pw_ellipse_metres(uint8_t *sheet, size_t len, uint32_t width, uint32_t height, uint8_t ink,
+uint32_t pw_ellipse_metres(uint8_t *sheet, size_t len, uint32_t width, uint32_t height, uint32_t pitch, uint8_t ink,
                            double east, double north, double size, double x, double y, double a, double b);
 
 #ifdef __cplusplus

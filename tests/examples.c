@@ -33,7 +33,7 @@ static int at(int x, int y) { return sheet[y * WIDTH + x]; }
 /* the cell of a position, as the ring of radius one cell about it shows, whose rightmost cell is one further: so -1 is seen too */
 static int column(double east, double size, double x) {
     clear();
-    if (pw_circle_metres(sheet, sizeof sheet, WIDTH, HEIGHT, 1, east, 0.0, size, x, 2.0 * size, size) != PW_DONE)
+    if (pw_circle_metres(sheet, sizeof sheet, WIDTH, HEIGHT, WIDTH, 1, east, 0.0, size, x, 2.0 * size, size) != PW_DONE)
         return -100;
     for (int c = WIDTH - 1; c >= 0; c--)
         if (at(c, 2))
@@ -46,7 +46,7 @@ static uint64_t value;
 static uint32_t file(const char *bytes, size_t n) {
     clear();
     value = 99;
-    return pw_file(sheet, sizeof sheet, WIDTH, HEIGHT, (const uint8_t *)bytes, n, &value);
+    return pw_file(sheet, sizeof sheet, WIDTH, HEIGHT, WIDTH, (const uint8_t *)bytes, n, &value);
 }
 
 int main(void) {
@@ -55,7 +55,7 @@ int main(void) {
     /* the points are (0,0), the middle and (0,4): were the middle -1, its cell would lie off the sheet */
     clear();
     same("a curve with x of 0, -1, 0 and s = 1 is drawn",
-         pw_curve(sheet, sizeof sheet, WIDTH, HEIGHT, 1, 0, 0, -1, 2, 0, 4, 1), PW_DONE);
+         pw_curve(sheet, sizeof sheet, WIDTH, HEIGHT, WIDTH, 1, 0, 0, -1, 2, 0, 4, 1), PW_DONE);
     same("x of 0, -1, 0: -0.5 becomes 0", set() == 5 && at(0, 0) && at(0, 1) && at(0, 2) && at(0, 3) && at(0, 4), 1);
 
     same("origin 1000.0, size 25.0: 1062.5 is cell 2", column(1000.0, 25.0, 1062.5), 2);
@@ -64,14 +64,14 @@ int main(void) {
     same("position -0.0, origin 0.0: cell 0", column(0.0, 1.0, -0.0), 0);
 
     cells = 0;
-    same("coordinate 16,383 is drawn", pw_line(sheet, sizeof sheet, WIDTH, HEIGHT, 1, 0, 0, 16383, 0, &cells), PW_DONE);
+    same("coordinate 16,383 is drawn", pw_line(sheet, sizeof sheet, WIDTH, HEIGHT, WIDTH, 1, 0, 0, 16383, 0, &cells), PW_DONE);
     same("the line to 16,383 has the sheet's first row", cells, WIDTH);
     same("coordinate 16,384 is refused with 2",
-         pw_line(sheet, sizeof sheet, WIDTH, HEIGHT, 1, 0, 0, 16384, 0, &cells), PW_COORDINATE);
-    same("s = 6 is drawn", pw_curve(sheet, sizeof sheet, WIDTH, HEIGHT, 1, 0, 0, 2, 4, 4, 0, 6), PW_DONE);
-    same("s = 7 is refused with 4", pw_curve(sheet, sizeof sheet, WIDTH, HEIGHT, 1, 0, 0, 2, 4, 4, 0, 7), PW_PIECES);
+         pw_line(sheet, sizeof sheet, WIDTH, HEIGHT, WIDTH, 1, 0, 0, 16384, 0, &cells), PW_COORDINATE);
+    same("s = 6 is drawn", pw_curve(sheet, sizeof sheet, WIDTH, HEIGHT, WIDTH, 1, 0, 0, 2, 4, 4, 0, 6), PW_DONE);
+    same("s = 7 is refused with 4", pw_curve(sheet, sizeof sheet, WIDTH, HEIGHT, WIDTH, 1, 0, 0, 2, 4, 4, 0, 7), PW_PIECES);
     same("size 0.0 is refused with 6",
-         pw_line_metres(sheet, sizeof sheet, WIDTH, HEIGHT, 1, 0.0, 0.0, 0.0, 0.0, 0.0, 0.0, 0.0, &cells), PW_SURVEY);
+         pw_line_metres(sheet, sizeof sheet, WIDTH, HEIGHT, WIDTH, 1, 0.0, 0.0, 0.0, 0.0, 0.0, 0.0, 0.0, &cells), PW_SURVEY);
 
     same("length 1 with one byte after it: 16", file("\x01\x00\x01", 3), PW_KINDLESS);
     same("length 1 with nothing after it: 8", file("\x01\x00", 2), PW_SHORT);

@@ -4,7 +4,7 @@
 #include "speed.h"
 
 int opencv(struct sheet *s, const struct figure *f) {
-    cv::Mat sheet((int)s->side, (int)s->side, CV_8U, s->bytes);
+    cv::Mat sheet((int)s->side, (int)s->side, CV_8U, s->bytes, s->pitch);
     const cv::Scalar ink(1);
     switch (f->kind) {
     case LINE: cv::line(sheet, {f->x0, f->y0}, {f->x1, f->y1}, ink); return 1;

@@ -17,15 +17,19 @@ static int32_t between(int32_t least, int32_t most) {
     return least + (int32_t)((state >> 33) % (uint64_t)(most - least + 1));
 }
 
+static size_t length(const struct sheet *s) {
+    return (size_t)s->pitch * s->side;
+}
+
 static int pistonwool(struct sheet *s, const struct figure *f) {
-    size_t len = (size_t)s->side * s->side;
-    uint32_t cells, reply = 0;
+    size_t len = length(s);
+    uint32_t side = s->side, pitch = s->pitch, cells, reply = 0;
     switch (f->kind) {
-    case LINE: reply = pw_line(s->bytes, len, s->side, s->side, 1, f->x0, f->y0, f->x1, f->y1, &cells); break;
-    case CIRCLE: reply = pw_circle(s->bytes, len, s->side, s->side, 1, f->x0, f->y0, f->a); break;
-    case ELLIPSE: reply = pw_ellipse(s->bytes, len, s->side, s->side, 1, f->x0, f->y0, f->a, f->b); break;
+    case LINE: reply = pw_line(s->bytes, len, side, side, pitch, 1, f->x0, f->y0, f->x1, f->y1, &cells); break;
+    case CIRCLE: reply = pw_circle(s->bytes, len, side, side, pitch, 1, f->x0, f->y0, f->a); break;
+    case ELLIPSE: reply = pw_ellipse(s->bytes, len, side, side, pitch, 1, f->x0, f->y0, f->a, f->b); break;
     case CURVE:
-        reply = pw_curve(s->bytes, len, s->side, s->side, 1, f->x0, f->y0, f->x1, f->y1, f->x2, f->y2, f->s);
+        reply = pw_curve(s->bytes, len, side, side, pitch, 1, f->x0, f->y0, f->x1, f->y1, f->x2, f->y2, f->s);
         break;
     case LISTING: reply = pw_list(s->xs, s->places, s->ys, s->places, f->x0, f->y0, f->x1, f->y1, &cells); break;
     }
@@ -74,7 +78,7 @@ static void record(const struct figure *f) {
 static int whole_file(struct sheet *s, const struct figure *f) {
     uint64_t records;
     (void)f;
-    if (pw_file(s->bytes, (size_t)s->side * s->side, s->side, s->side, file, file_length, &records) != PW_DONE)
+    if (pw_file(s->bytes, length(s), s->side, s->side, s->pitch, file, file_length, &records) != PW_DONE)
         exit(1);
     return 1;
 }
@@ -109,7 +113,7 @@ static struct figure far_line(int32_t side) {
 
 /* how many cells the figure has on the sheet, which is left clear */
 static size_t cells_of(struct sheet *s, const struct figure *f) {
-    size_t len = (size_t)s->side * s->side, cells = 0;
+    size_t len = length(s), cells = 0;
     struct figure drawn = *f;
     if (drawn.kind == LISTING)
         drawn.kind = LINE;
@@ -162,28 +166,37 @@ static void row(const char *name, const char *unit, struct sheet *s, struct way 
                 ways[w].best = ns;
         }
     printf("| %s, ns a %s | %u²", name, unit, s->side);
+    if (s->pitch != s->side)
+        printf(", pitch %u", s->pitch);
     for (size_t w = 0; w < n; w++)
         told(ways[w].best < 0 ? -1 : ways[w].best / (double)units);
     printf(" | %.2f |\n", ways[0].best / ways[1].best);
     fflush(stdout);
 }
 
-static void rows(struct sheet *s, struct way *ways, size_t n) {
-    static const struct {
-        enum kind kind;
-        const char *name;
-    } kinds[] = {{LINE, "lines"}, {CIRCLE, "circles"}, {ELLIPSE, "ellipses"}, {CURVE, "curves"}, {LISTING, "listing"}};
-    static struct figure figures[MOST];
-    for (size_t k = 0; k < sizeof kinds / sizeof *kinds; k++) {
-        size_t count = 0, cells = 0;
-        while (count < MOST && cells < CELLS) {
-            figures[count] = some(kinds[k].kind, (int32_t)s->side);
-            cells += cells_of(s, &figures[count++]);
-        }
-        for (size_t w = 0; w < n; w++)
-            ways[w].figures = count;
-        row(kinds[k].name, "cell", s, ways, n, figures, cells);
+static struct figure figures[MOST];
+
+/* figures of one kind */
+static void kind_row(enum kind kind, struct sheet *s, struct way *ways, size_t n) {
+    static const char *const names[] = {
+        [LINE] = "lines", [CIRCLE] = "circles", [ELLIPSE] = "ellipses", [CURVE] = "curves", [LISTING] = "listing"};
+    size_t count = 0, cells = 0;
+    while (count < MOST && cells < CELLS) {
+        figures[count] = some(kind, (int32_t)s->side);
+        cells += cells_of(s, &figures[count++]);
     }
+    for (size_t w = 0; w < n; w++)
+        ways[w].figures = count;
+    row(names[kind], "cell", s, ways, n, figures, cells);
+}
+
+static void rows(struct sheet *s, struct way *ways, size_t n) {
+    if (s->pitch != s->side) {
+        kind_row(LINE, s, ways, n);
+        return;
+    }
+    for (enum kind kind = LINE; kind <= LISTING; kind++)
+        kind_row(kind, s, ways, n);
     for (size_t i = 0; i < FAR; i++)
         figures[i] = far_line((int32_t)s->side);
     for (size_t w = 0; w < n; w++)
@@ -206,7 +219,10 @@ static void rows(struct sheet *s, struct way *ways, size_t n) {
 }
 
 int main(void) {
-    static const uint32_t sides[] = {64, 512, 4096};
+    /* the last: rows that do not all begin in the same part of the cache */
+    static const struct {
+        uint32_t side, pitch;
+    } sheets[] = {{64, 64}, {512, 512}, {4096, 4096}, {4096, 4160}};
     struct way ways[4] = {{.draw = pistonwool}, {.draw = walk}};
     size_t n = 2;
     printf("| figures | sheet | Pistonwool | C");
@@ -222,9 +238,9 @@ int main(void) {
     for (size_t i = 0; i <= n; i++)
         printf("|---");
     printf("|\n");
-    for (size_t i = 0; i < sizeof sides / sizeof *sides; i++) {
-        uint32_t side = sides[i];
-        struct sheet s = {.bytes = calloc(side, side), .side = side, .places = side};
+    for (size_t i = 0; i < sizeof sheets / sizeof *sheets; i++) {
+        uint32_t side = sheets[i].side, pitch = sheets[i].pitch;
+        struct sheet s = {.bytes = calloc(side, pitch), .side = side, .pitch = pitch, .places = side};
         s.xs = calloc(side, sizeof *s.xs);
         s.ys = calloc(side, sizeof *s.ys);
         if (!s.bytes || !s.xs || !s.ys)

@@ -19,7 +19,7 @@ struct figure {
 
 struct sheet {
     uint8_t *bytes;
-    uint32_t side;
+    uint32_t side, pitch;
     int32_t *xs, *ys;
     size_t places;
 };

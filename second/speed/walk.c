@@ -9,15 +9,15 @@ static int on(const struct sheet *s, int32_t x, int32_t y) {
 
 static void mark(struct sheet *s, int32_t x, int32_t y) {
     if (on(s, x, y))
-        s->bytes[(size_t)y * s->side + (size_t)x] = 1;
+        s->bytes[(size_t)y * s->pitch + (size_t)x] = 1;
 }
 
 static void line(struct sheet *s, int32_t x0, int32_t y0, int32_t x1, int32_t y1) {
     int32_t w = abs(x1 - x0), h = abs(y1 - y0), sx = x0 < x1 ? 1 : -1, sy = y0 < y1 ? 1 : -1;
     int32_t most = w > h ? w : h, least = w > h ? h : w, error = most / 2;
     if (on(s, x0, y0) && on(s, x1, y1)) {
-        ptrdiff_t along = w > h ? sx : sy * (ptrdiff_t)s->side, across = w > h ? sy * (ptrdiff_t)s->side : sx;
-        uint8_t *at = s->bytes + (size_t)y0 * s->side + (size_t)x0;
+        ptrdiff_t along = w > h ? sx : sy * (ptrdiff_t)s->pitch, across = w > h ? sy * (ptrdiff_t)s->pitch : sx;
+        uint8_t *at = s->bytes + (size_t)y0 * s->pitch + (size_t)x0;
         for (int32_t n = 0; n <= most; n++) {
             *at = 1;
             at += along;
@@ -65,19 +65,19 @@ static void list(struct sheet *s, int32_t x0, int32_t y0, int32_t x1, int32_t y1
 }
 
 /* the two rows y above and below the centre, x to either side of it, without a test: the ring is on the sheet */
-static void mirror(uint8_t *centre, ptrdiff_t side, ptrdiff_t x, ptrdiff_t y) {
-    centre[y * side + x] = 1;
-    centre[y * side - x] = 1;
-    centre[-y * side + x] = 1;
-    centre[-y * side - x] = 1;
+static void mirror(uint8_t *centre, ptrdiff_t pitch, ptrdiff_t x, ptrdiff_t y) {
+    centre[y * pitch + x] = 1;
+    centre[y * pitch - x] = 1;
+    centre[-y * pitch + x] = 1;
+    centre[-y * pitch - x] = 1;
 }
 
 static void circle(struct sheet *s, int32_t cx, int32_t cy, int32_t r) {
-    uint8_t *centre = s->bytes + (size_t)cy * s->side + (size_t)cx;
+    uint8_t *centre = s->bytes + (size_t)cy * s->pitch + (size_t)cx;
     int32_t x = 0, y = r, error = 1 - r;
     while (x <= y) {
-        mirror(centre, s->side, x, y);
-        mirror(centre, s->side, y, x);
+        mirror(centre, s->pitch, x, y);
+        mirror(centre, s->pitch, y, x);
         x++;
         if (error < 0) {
             error += 2 * x + 1;
@@ -89,11 +89,11 @@ static void circle(struct sheet *s, int32_t cx, int32_t cy, int32_t r) {
 }
 
 static void ellipse(struct sheet *s, int32_t cx, int32_t cy, int64_t a, int64_t b) {
-    uint8_t *centre = s->bytes + (size_t)cy * s->side + (size_t)cx;
+    uint8_t *centre = s->bytes + (size_t)cy * s->pitch + (size_t)cx;
     int64_t aa = a * a, bb = b * b, x = 0, y = b, px = 0, py = 2 * aa * y;
     int64_t p = bb - aa * b + aa / 4;
     while (px < py) {
-        mirror(centre, s->side, x, y);
+        mirror(centre, s->pitch, x, y);
         x++;
         px += 2 * bb;
         if (p < 0) {
@@ -106,7 +106,7 @@ static void ellipse(struct sheet *s, int32_t cx, int32_t cy, int64_t a, int64_t 
     }
     p = bb * (x * x + x) + bb / 4 + aa * (y - 1) * (y - 1) - aa * bb;
     while (y >= 0) {
-        mirror(centre, s->side, x, y);
+        mirror(centre, s->pitch, x, y);
         y--;
         py -= 2 * aa;
         if (p > 0) {

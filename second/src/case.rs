@@ -10,6 +10,7 @@ pub struct Size {
     pub len: usize,
     pub width: u32,
     pub height: u32,
+    pub pitch: u32,
 }
 
 #[derive(Clone, Debug)]
@@ -32,7 +33,7 @@ pub struct Case {
 }
 
 /// The most bytes that a random case lends.
-pub const MOST_BYTES: usize = 4096 * 4096 + 4096;
+pub const MOST_BYTES: usize = 8192 * 4096 + 8192;
 /// The most places that a random case lends in a list.
 pub const MOST_PLACES: usize = 40_000;
 
@@ -78,7 +79,7 @@ impl Job {
 
 impl fmt::Display for Size {
     fn fmt(&self, to: &mut fmt::Formatter) -> fmt::Result {
-        write!(to, "{} {} {}", self.len, self.width, self.height)
+        write!(to, "{} {} {} {}", self.len, self.width, self.height, self.pitch)
     }
 }
 
@@ -152,7 +153,7 @@ impl FromStr for Case {
         if let Some(job) = without_sheet(name, words)? {
             return Ok(Case { fill, job });
         }
-        let size = Size { len: number(words)?, width: number(words)?, height: number(words)? };
+        let size = Size { len: number(words)?, width: number(words)?, height: number(words)?, pitch: number(words)? };
         if name == "file" {
             let digits = words.next().unwrap_or("");
             let byte = |at| digits.get(at..at + 2).and_then(|pair| u8::from_str_radix(pair, 16).ok());

@@ -77,10 +77,12 @@ impl Rules {
 #[cfg(test)]
 mod tests {
     use super::*;
+    use crate::rule::Shape;
 
     fn reply(file: &[u8]) -> (u32, Option<u64>) {
+        let shape = Shape { width: 16, height: 8, pitch: 16 };
         let mut bytes = vec![0; 128];
-        let reply = Rules::document().draw_file(&mut Sheet { width: 16, height: 8, bytes: &mut bytes }, file);
+        let reply = Rules::document().draw_file(&mut Sheet { shape, bytes: &mut bytes }, file);
         (reply.number, reply.value)
     }
 

@@ -14,7 +14,7 @@ const PRIVATE_AND_EMPTY: i32 = 0x02 | 0x20;
 /// No page of the machines at hand is larger.
 const PAGE: usize = 65_536;
 /// As many bytes as the largest sheet has, so that a wrong row is not past the guard.
-const GUARD: usize = 256 * PAGE;
+const GUARD: usize = 512 * PAGE;
 
 /// Which of the two guards a buffer touches.
 #[derive(Clone, Copy, Debug, PartialEq)]

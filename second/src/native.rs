@@ -4,26 +4,26 @@ use crate::metres::{Metres, Survey};
 #[rustfmt::skip] // one function to a line or two, as the header has them
 mod declared {
     extern "C" {
-        pub fn pw_line(sheet: *mut u8, len: usize, width: u32, height: u32, ink: u8,
+        pub fn pw_line(sheet: *mut u8, len: usize, width: u32, height: u32, pitch: u32, ink: u8,
                        x0: i32, y0: i32, x1: i32, y1: i32, cells: *mut u32) -> u32;
-        pub fn pw_circle(sheet: *mut u8, len: usize, width: u32, height: u32, ink: u8,
+        pub fn pw_circle(sheet: *mut u8, len: usize, width: u32, height: u32, pitch: u32, ink: u8,
                          x: i32, y: i32, r: u32) -> u32;
-        pub fn pw_ellipse(sheet: *mut u8, len: usize, width: u32, height: u32, ink: u8,
+        pub fn pw_ellipse(sheet: *mut u8, len: usize, width: u32, height: u32, pitch: u32, ink: u8,
                           x: i32, y: i32, a: u32, b: u32) -> u32;
-        pub fn pw_curve(sheet: *mut u8, len: usize, width: u32, height: u32, ink: u8,
+        pub fn pw_curve(sheet: *mut u8, len: usize, width: u32, height: u32, pitch: u32, ink: u8,
                         x0: i32, y0: i32, x1: i32, y1: i32, x2: i32, y2: i32, s: u32) -> u32;
         pub fn pw_list(xs: *mut i32, nx: usize, ys: *mut i32, ny: usize,
                        x0: i32, y0: i32, x1: i32, y1: i32, cells: *mut u32) -> u32;
         pub fn pw_pen_begin(pen: *mut super::Pen, x0: i32, y0: i32, x1: i32, y1: i32) -> u32;
         pub fn pw_pen_next(pen: *mut super::Pen, x: *mut i32, y: *mut i32) -> u32;
-        pub fn pw_file(sheet: *mut u8, len: usize, width: u32, height: u32,
+        pub fn pw_file(sheet: *mut u8, len: usize, width: u32, height: u32, pitch: u32,
                        file: *const u8, n: usize, value: *mut u64) -> u32;
-        pub fn pw_line_metres(sheet: *mut u8, len: usize, width: u32, height: u32, ink: u8,
+        pub fn pw_line_metres(sheet: *mut u8, len: usize, width: u32, height: u32, pitch: u32, ink: u8,
                               east: f64, north: f64, size: f64,
                               x0: f64, y0: f64, x1: f64, y1: f64, cells: *mut u32) -> u32;
-        pub fn pw_circle_metres(sheet: *mut u8, len: usize, width: u32, height: u32, ink: u8,
+        pub fn pw_circle_metres(sheet: *mut u8, len: usize, width: u32, height: u32, pitch: u32, ink: u8,
                                 east: f64, north: f64, size: f64, x: f64, y: f64, r: f64) -> u32;
-        pub fn pw_ellipse_metres(sheet: *mut u8, len: usize, width: u32, height: u32, ink: u8,
+        pub fn pw_ellipse_metres(sheet: *mut u8, len: usize, width: u32, height: u32, pitch: u32, ink: u8,
                                  east: f64, north: f64, size: f64, x: f64, y: f64, a: f64, b: f64) -> u32;
     }
 }
@@ -33,6 +33,7 @@ pub struct Lent<'a> {
     pub bytes: &'a mut [u8],
     pub width: u32,
     pub height: u32,
+    pub pitch: u32,
 }
 
 /// A figure in cells, with the types of the header.
@@ -53,34 +54,36 @@ pub struct Pen {
 }
 
 pub fn draw(lent: Lent, ink: u8, figure: Cells, cells: &mut u32) -> u32 {
-    let Lent { bytes, width, height } = lent;
+    let Lent { bytes, width: w, height: h, pitch } = lent;
     let (sheet, len) = (bytes.as_mut_ptr(), bytes.len());
     // SAFETY: the pointers are of slices and numbers lent to this call alone, with their lengths.
     unsafe {
         match figure {
-            Cells::Line([x0, y0, x1, y1]) => declared::pw_line(sheet, len, width, height, ink, x0, y0, x1, y1, cells),
-            Cells::Circle([x, y], r) => declared::pw_circle(sheet, len, width, height, ink, x, y, r),
-            Cells::Ellipse([x, y], a, b) => declared::pw_ellipse(sheet, len, width, height, ink, x, y, a, b),
+            Cells::Line([x0, y0, x1, y1]) => declared::pw_line(sheet, len, w, h, pitch, ink, x0, y0, x1, y1, cells),
+            Cells::Circle([x, y], r) => declared::pw_circle(sheet, len, w, h, pitch, ink, x, y, r),
+            Cells::Ellipse([x, y], a, b) => declared::pw_ellipse(sheet, len, w, h, pitch, ink, x, y, a, b),
             Cells::Curve([x0, y0, x1, y1, x2, y2], s) => {
-                declared::pw_curve(sheet, len, width, height, ink, x0, y0, x1, y1, x2, y2, s)
+                declared::pw_curve(sheet, len, w, h, pitch, ink, x0, y0, x1, y1, x2, y2, s)
             }
         }
     }
 }
 
 pub fn draw_metres(lent: Lent, ink: u8, survey: Survey, figure: Metres, cells: &mut u32) -> u32 {
-    let Lent { bytes, width: w, height: h } = lent;
+    let Lent { bytes, width: w, height: h, pitch } = lent;
     let (sheet, len) = (bytes.as_mut_ptr(), bytes.len());
     let Survey { east, north, size } = survey;
     // SAFETY: as in `draw`.
     unsafe {
         match figure {
             Metres::Line([x0, y0, x1, y1]) => {
-                declared::pw_line_metres(sheet, len, w, h, ink, east, north, size, x0, y0, x1, y1, cells)
+                declared::pw_line_metres(sheet, len, w, h, pitch, ink, east, north, size, x0, y0, x1, y1, cells)
             }
-            Metres::Circle([x, y, r]) => declared::pw_circle_metres(sheet, len, w, h, ink, east, north, size, x, y, r),
+            Metres::Circle([x, y, r]) => {
+                declared::pw_circle_metres(sheet, len, w, h, pitch, ink, east, north, size, x, y, r)
+            }
             Metres::Ellipse([x, y, a, b]) => {
-                declared::pw_ellipse_metres(sheet, len, w, h, ink, east, north, size, x, y, a, b)
+                declared::pw_ellipse_metres(sheet, len, w, h, pitch, ink, east, north, size, x, y, a, b)
             }
         }
     }
@@ -102,7 +105,8 @@ pub fn pen_next(pen: &mut Pen, x: &mut i32, y: &mut i32) -> u32 {
 }
 
 pub fn file(lent: Lent, file: &[u8], value: &mut u64) -> u32 {
-    let Lent { bytes, width, height } = lent;
+    let Lent { bytes, width: w, height: h, pitch } = lent;
+    let (sheet, len) = (bytes.as_mut_ptr(), bytes.len());
     // SAFETY: as in `draw`; the library only reads the file.
-    unsafe { declared::pw_file(bytes.as_mut_ptr(), bytes.len(), width, height, file.as_ptr(), file.len(), value) }
+    unsafe { declared::pw_file(sheet, len, w, h, pitch, file.as_ptr(), file.len(), value) }
 }

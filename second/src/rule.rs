@@ -34,9 +34,16 @@ impl Reply {
     }
 }
 
-pub struct Sheet<'a> {
+/// What a sheet is said to be.
+#[derive(Clone, Copy, Debug)]
+pub struct Shape {
     pub width: i64,
     pub height: i64,
+    pub pitch: i64,
+}
+
+pub struct Sheet<'a> {
+    pub shape: Shape,
     pub bytes: &'a mut [u8],
 }
 
@@ -45,10 +52,10 @@ pub struct Sheet<'a> {
 pub struct Rules {
     /// The cells of a line, from the first named end to the second.
     pub line: fn(Cell, Cell) -> Vec<Cell>,
-    /// The cells of a line that are tried on a sheet of this width and height.
-    pub drawn: fn(&Rules, i64, i64, Cell, Cell) -> Vec<Cell>,
-    /// The byte of a cell on a sheet of this width and height.
-    pub place: fn(i64, i64, Cell) -> Option<usize>,
+    /// The cells of a line that are tried on a sheet of this shape.
+    pub drawn: fn(&Rules, Shape, Cell, Cell) -> Vec<Cell>,
+    /// The byte of a cell on a sheet of this shape.
+    pub place: fn(Shape, Cell) -> Option<usize>,
     /// Whether a circle of radius r has the cell (x, y) from its centre.
     pub on_circle: fn(i64, Cell) -> bool,
     /// Whether an ellipse of semi-axes a, b has the cell (x, y) from its centre.
@@ -75,7 +82,7 @@ impl Rules {
     pub fn document() -> Rules {
         Rules {
             line: line_cells,
-            drawn: |rules, _, _, from, to| (rules.line)(from, to),
+            drawn: |rules, _, from, to| (rules.line)(from, to),
             place,
             on_circle,
             on_ellipse,
@@ -131,8 +138,8 @@ impl Rules {
 
     fn ink_line(&self, sheet: &mut Sheet, ink: u8, from: Cell, to: Cell) -> u64 {
         let mut inked = 0;
-        for cell in (self.drawn)(self, sheet.width, sheet.height, from, to) {
-            if let Some(place) = (self.place)(sheet.width, sheet.height, cell) {
+        for cell in (self.drawn)(self, sheet.shape, from, to) {
+            if let Some(place) = (self.place)(sheet.shape, cell) {
                 sheet.bytes[place] = ink;
                 inked += 1;
             }
@@ -142,10 +149,11 @@ impl Rules {
 
     /// Asks every cell of the sheet that is in the ring's box.
     fn ink_ring(&self, sheet: &mut Sheet, ink: u8, centre: Cell, reach: Cell, has: impl Fn(Cell) -> bool) {
-        for y in (centre.1 - reach.1).max(0)..=(centre.1 + reach.1).min(sheet.height - 1) {
-            for x in (centre.0 - reach.0).max(0)..=(centre.0 + reach.0).min(sheet.width - 1) {
+        let Shape { width, height, pitch } = sheet.shape;
+        for y in (centre.1 - reach.1).max(0)..=(centre.1 + reach.1).min(height - 1) {
+            for x in (centre.0 - reach.0).max(0)..=(centre.0 + reach.0).min(width - 1) {
                 if has((x - centre.0, y - centre.1)) {
-                    sheet.bytes[(y * sheet.width + x) as usize] = ink;
+                    sheet.bytes[(y * pitch + x) as usize] = ink;
                 }
             }
         }
@@ -168,12 +176,13 @@ impl Rules {
     }
 }
 
-/// 1 for the sizes, then 15 for the slice.
+/// 1 for the sizes and the pitch, then 15 for the slice.
 pub fn no_sheet(sheet: &Sheet) -> Option<u32> {
-    if [sheet.width, sheet.height].iter().any(|side| !(1..=4096).contains(side)) {
+    let Shape { width, height, pitch } = sheet.shape;
+    if !(1..=4096).contains(&width) || !(1..=4096).contains(&height) || !(width..=8192).contains(&pitch) {
         return Some(1);
     }
-    (sheet.bytes.len() as i64 != sheet.width * sheet.height).then_some(15)
+    (sheet.bytes.len() as i64 != pitch * height).then_some(15)
 }
 
 /// The first field that is outside its limits, in the order of the payload: the numbers 2, 3, 4 have that order too.
@@ -210,8 +219,8 @@ pub fn within(coordinate: i64) -> bool {
     (LEAST..=MOST).contains(&coordinate)
 }
 
-pub fn place(width: i64, height: i64, (x, y): Cell) -> Option<usize> {
-    ((0..width).contains(&x) && (0..height).contains(&y)).then_some((y * width + x) as usize)
+pub fn place(Shape { width, height, pitch }: Shape, (x, y): Cell) -> Option<usize> {
+    ((0..width).contains(&x) && (0..height).contains(&y)).then_some((y * pitch + x) as usize)
 }
 
 /// The cells of a line by its rule, which counts from the lesser end.
@@ -268,9 +277,26 @@ mod tests {
     /// The cells of a figure about the middle of a sheet of 40 by 40.
     fn count(figure: Figure) -> usize {
         let mut bytes = vec![0; 1600];
-        let mut sheet = Sheet { width: 40, height: 40, bytes: &mut bytes };
+        let mut sheet = Sheet { shape: Shape { width: 40, height: 40, pitch: 40 }, bytes: &mut bytes };
         assert_eq!(Rules::document().draw(&mut sheet, 1, &figure).number, 0);
         bytes.iter().filter(|&&byte| byte == 1).count()
+    }
+
+    #[test]
+    fn sheets_of_the_document() {
+        let refused = |len: usize, width: i64, height: i64, pitch: i64| {
+            no_sheet(&Sheet { shape: Shape { width, height, pitch }, bytes: &mut vec![0; len] })
+        };
+        assert_eq!(refused(60, 10, 5, 12), None);
+        assert_eq!(refused(50, 10, 5, 10), None);
+        assert_eq!(refused(50, 10, 5, 12), Some(15));
+        assert_eq!(refused(58, 10, 5, 12), Some(15));
+        assert_eq!(refused(45, 10, 5, 9), Some(1));
+        assert_eq!(refused(8192, 10, 1, 8192), None);
+        assert_eq!(refused(8193, 10, 1, 8193), Some(1));
+        assert_eq!(refused(0, 16, 4096, 1 << 20), Some(1));
+        assert_eq!(place(Shape { width: 10, height: 5, pitch: 12 }, (9, 4)), Some(57));
+        assert_eq!(place(Shape { width: 10, height: 5, pitch: 12 }, (10, 4)), None);
     }
 
     #[test]

@@ -1,10 +1,10 @@
 //! One case, drawn by the library between guard pages and by the second program, and compared.
-use crate::case::{places, Case, Job, MOST_BYTES, MOST_PLACES};
+use crate::case::{places, Case, Job, Size, MOST_BYTES, MOST_PLACES};
 use crate::guard::{Against, Guarded};
 use crate::native::{self, Cells, Lent};
 use crate::pen::{self, Call};
 use crate::random::Random;
-use crate::rule::{Figure, Reply, Rules, Sheet};
+use crate::rule::{Figure, Reply, Rules, Shape, Sheet};
 use std::fmt::Display;
 
 /// The room for everything that a case lends to the library.
@@ -64,7 +64,8 @@ impl Room {
         let (xs, ys) = (xs.lend::<i32>(before.lists[0].len(), against), ys.lend::<i32>(before.lists[1].len(), against));
         xs.copy_from_slice(&before.lists[0]);
         ys.copy_from_slice(&before.lists[1]);
-        let (width, height) = job.size().map_or((0, 0), |size| (size.width, size.height));
+        let none = Size { len: 0, width: 0, height: 0, pitch: 0 };
+        let Size { width, height, pitch, .. } = job.size().unwrap_or(none);
         let mut short = |call: &mut dyn FnMut(&mut u32) -> u32| {
             let value = &mut self.value.lend::<u32>(1, against)[0];
             *value = before.value as u32;
@@ -72,11 +73,11 @@ impl Room {
         };
         let (number, value) = match job {
             Job::Cells(_, ink, figure) => {
-                short(&mut |value| native::draw(Lent { bytes: sheet, width, height }, *ink, *figure, value))
+                short(&mut |value| native::draw(Lent { bytes: sheet, width, height, pitch }, *ink, *figure, value))
             }
             Job::Metres(_, ink, survey, figure) => {
                 let draw = native::draw_metres;
-                short(&mut |value| draw(Lent { bytes: sheet, width, height }, *ink, *survey, *figure, value))
+                short(&mut |value| draw(Lent { bytes: sheet, width, height, pitch }, *ink, *survey, *figure, value))
             }
             Job::List(_, ends) | Job::Begin(ends) => short(&mut |value| native::list(xs, ys, *ends, value)),
             Job::Next(_) => return Ok(()),
@@ -85,7 +86,7 @@ impl Room {
                 file.copy_from_slice(bytes);
                 let value = &mut self.value.lend::<u64>(1, against)[0];
                 *value = before.value;
-                let number = native::file(Lent { bytes: sheet, width, height }, file, value);
+                let number = native::file(Lent { bytes: sheet, width, height, pitch }, file, value);
                 if file != bytes {
                     return Err("the file was changed".into());
                 }
@@ -135,9 +136,9 @@ impl Outcome {
 
     fn by_rules(&mut self, rules: &Rules, job: &Job) {
         self.calls = self.calls.first().map_or(Vec::new(), |lent| lent.by_rules(rules, job.begins()));
-        let mut sheet = Sheet { width: 0, height: 0, bytes: &mut self.sheet };
-        if let Some(size) = job.size() {
-            (sheet.width, sheet.height) = (size.width.into(), size.height.into());
+        let mut sheet = Sheet { shape: Shape { width: 0, height: 0, pitch: 0 }, bytes: &mut self.sheet };
+        if let Some(Size { width, height, pitch, .. }) = job.size() {
+            sheet.shape = Shape { width: width.into(), height: height.into(), pitch: pitch.into() };
         }
         let Reply { number, value } = match job {
             Job::Cells(_, ink, figure) => rules.draw(&mut sheet, *ink, &widened(figure)),

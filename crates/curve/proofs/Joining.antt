@@ -12,6 +12,7 @@ use Rattle.sheet.specs.Inner.{Sheet, unmovedCell}
 use Rattle.sheet.specs.declared.Cell.{Cell}
 use Rattle.sheet.specs.declared.Shape.{Shape}
 use Rattle.sheet.specs.declared.Spot.{Spot}
+use Rattle.sheet.proofs.Limits.{still-sheet}
 use Rattle.sheet.proofs.Paint.{paint-as, paint-none, paint-then, paint-length}
 use Rattle.line.specs.Rule.{onLine}
 use Rattle.curve.specs.Inner.{jointAt, firstPieces}
@@ -52,15 +53,7 @@ module _ (k : Shape) (ink : ℕ) (c : Controls) (s : ℕ) where
             ∙ (λ j. paint k ink (onLine (unmovedCell (g .from-is j)) (unmovedCell (e j))) (g .inked j))
             ∙ paint-then k ink (firstPieces c s i) (onLine (unmovedCell (jointAt c s i)) (unmovedCell (jointAt c s (i + 1)))) sheet₀
             ∙ sym (paint-as k ink _ _ sheet₀ (λ x y a b. more-pieces i (cellOf x y)));
-        sized =
-            let z = g .sized in
-            record {
-              area = ap length f ∙ paint-length k ink (onLine (unmovedCell from) (unmovedCell to)) sheet ∙ z .area;
-              broad = z .broad;
-              wide = z .wide;
-              deep = z .deep;
-              high = z .high;
-            };
+        sized = still-sheet k sheet t (ap length f ∙ paint-length k ink (onLine (unmovedCell from) (unmovedCell to)) sheet) (g .sized);
       }
 
   pub ends : (sheet₀ sheet : List ℕ) (from : Spot) (i : ℕ) → Joining k ink c s sheet₀ sheet from i → 2 ^ s ≤ i → sheet ≡ paint k ink (firstPieces c s (2 ^ s)) sheet₀

@@ -38,7 +38,7 @@ use Rattle.drawing.specs.File.{drawFileAnswer, fileDrawing}
 use Rattle.drawing.specs.Metres.{cellsDrawing, metresDrawing}
 
 abbrev pub small : Shape
-small = record { width = 1; height = 1 }
+small = record { width = 1; height = 1; pitch = 1 }
 
 abbrev lent : List ℕ
 lent = 0 ∷ []

@@ -4,6 +4,7 @@ use mathlib.Core.Path.{_≡_, refl, subst, ap, ap₂, _∙_}
 use mathlib.Core.Logic.{⊎-elim}
 use mathlib.Core.Bool.{Bool, true, false, cond, _||_, or-false}
 use native.Mathlib.Omega.{arith}
+use native.Mathlib.Nat.{add-zero, add-suc}
 use native.Mathlib.Numerals.{add-one}
 use borrow.Author.Tests.{eqb-true, eqb-false, ne-eqb}
 use lib.Dec.{T, eqb}
@@ -66,6 +67,12 @@ count-most (suc n) test = by (test n) (count-most n test)
     by : (t : Bool) → count n test ≤ n → count n test + cond t 1 0 ≤ suc n
     by true h = omega arith
     by false h = omega arith
+
+-- those below m, and the n from m on
+pub count-add : (m n : ℕ) (test : ℕ → Bool) → count (m + n) test ≡ count m test + count n (λ (i : ℕ). test (m + i))
+unfolding count
+count-add m zero test = rw (add-zero m) (omega arith)
+count-add m (suc n) test = rw (add-suc m n) (omega (arith, count-add m n test))
 
 -- one number more passes
 pub count-more : (n : ℕ) (test : ℕ → Bool) (at : ℕ) → at < n → test at ≡ false → count n (λ (i : ℕ). test i || eqb i at) ≡ count n test + 1

@@ -11,10 +11,11 @@ use Rattle.line.specs.Inner.Course.{stepped, spotAt}
 use Rattle.line.specs.Inner.Span.{On, byteOf, aloneBy, bothBy}
 use Rattle.line.specs.declared.Course.{Course}
 use Rattle.line.proofs.Rise.{rise-short}
+use Rattle.sheet.specs.Inner.{Disjoint}
 
--- a row of the sheet starts below 2^24
-pub row-small : (w h y : ℕ) → w ≤ 4096 → h ≤ 4096 → y < h → y * w ≤ 16777216
-row-small w h y a b l = mul-le-mul {n₁ = y} {m₁ = w} {n₂ = 4096} {m₂ = 4096} (omega arith) a
+-- a row of the sheet starts below 2^25
+pub row-small : (pitch h y : ℕ) → pitch ≤ 8192 → h ≤ 4096 → y < h → y * pitch ≤ 33554432
+row-small pitch h y a b l = mul-le-mul {n₁ = y} {m₁ = pitch} {n₂ = 4096} {m₂ = 8192} (omega arith) a
 
 -- no more steps than a line has cells
 pub steps-fit : (steep : Bool) (l s n q k : ℕ) → s ≤ l → l ≤ 32767 → n ≤ l → q ≡ rise l s n → k ≡ cond steep q n → k ≤ 32767
@@ -44,19 +45,19 @@ wrap-once : (a g b : ℕ) → a + g ≡ b + 2 ^ 64 → b < 2 ^ 64 → (a + g) % 
 wrap-once a g b e p = ap (λ (z : ℕ). z % 2 ^ 64) e ∙ add-mod-right b (2 ^ 64) ∙ mod-eq-of-lt p
 
 -- row u and column v, and those of the next cell; t: a step along both extents
-module _ (w u v u′ v′ : ℕ) (wide : w ≤ 4096) (column : v < w) (column′ : v′ < w) (small : u′ * w ≤ 16777216) where
+module _ (p u v u′ v′ : ℕ) (far : p ≤ 8192) (column : v < p) (column′ : v′ < p) (small : u′ * p ≤ 33554432) where
   hop : (right steep t : Bool)
       → cond right (v + cond steep (cond t 1 0) 1) v ≡ cond right v′ (v′ + cond steep (cond t 1 0) 1)
       → u + cond steep 1 (cond t 1 0) ≡ u′
-      → (u * w + v + cond t (bothBy right w) (aloneBy right steep w)) % 2 ^ 64 ≡ u′ * w + v′
-  hop true true true a b = wrap-none (u * w + v) (w + 1) (u′ * w + v′) (omega (arith, ap (λ (z : ℕ). z * w) b)) (omega arith)
-  hop true true false a b = wrap-none (u * w + v) w (u′ * w + v′) (omega (arith, ap (λ (z : ℕ). z * w) b)) (omega arith)
-  hop true false true a b = wrap-none (u * w + v) (w + 1) (u′ * w + v′) (omega (arith, ap (λ (z : ℕ). z * w) b)) (omega arith)
-  hop true false false a b = wrap-none (u * w + v) 1 (u′ * w + v′) (omega (arith, ap (λ (z : ℕ). z * w) b)) (omega arith)
-  hop false true true a b = wrap-none (u * w + v) (w - 1) (u′ * w + v′) (omega (arith, ap (λ (z : ℕ). z * w) b)) (omega arith)
-  hop false true false a b = wrap-none (u * w + v) w (u′ * w + v′) (omega (arith, ap (λ (z : ℕ). z * w) b)) (omega arith)
-  hop false false true a b = wrap-none (u * w + v) (w - 1) (u′ * w + v′) (omega (arith, ap (λ (z : ℕ). z * w) b)) (omega arith)
-  hop false false false a b = wrap-once (u * w + v) 18446744073709551615 (u′ * w + v′) (omega (arith, ap (λ (z : ℕ). z * w) b)) (omega arith)
+      → (u * p + v + cond t (bothBy right p) (aloneBy right steep p)) % 2 ^ 64 ≡ u′ * p + v′
+  hop true true true a b = wrap-none (u * p + v) (p + 1) (u′ * p + v′) (omega (arith, ap (λ (z : ℕ). z * p) b)) (omega arith)
+  hop true true false a b = wrap-none (u * p + v) p (u′ * p + v′) (omega (arith, ap (λ (z : ℕ). z * p) b)) (omega arith)
+  hop true false true a b = wrap-none (u * p + v) (p + 1) (u′ * p + v′) (omega (arith, ap (λ (z : ℕ). z * p) b)) (omega arith)
+  hop true false false a b = wrap-none (u * p + v) 1 (u′ * p + v′) (omega (arith, ap (λ (z : ℕ). z * p) b)) (omega arith)
+  hop false true true a b = wrap-none (u * p + v) (p - 1) (u′ * p + v′) (omega (arith, ap (λ (z : ℕ). z * p) b)) (omega arith)
+  hop false true false a b = wrap-none (u * p + v) p (u′ * p + v′) (omega (arith, ap (λ (z : ℕ). z * p) b)) (omega arith)
+  hop false false true a b = wrap-none (u * p + v) (p - 1) (u′ * p + v′) (omega (arith, ap (λ (z : ℕ). z * p) b)) (omega arith)
+  hop false false false a b = wrap-once (u * p + v) 18446744073709551615 (u′ * p + v′) (omega (arith, ap (λ (z : ℕ). z * p) b)) (omega arith)
 
 -- the columns and the rows of two cells, one n after the other
 columns : (right steep t : Bool) (m q q′ n : ℕ) → cond t (q + 1) q ≡ q′ → 65536 ≤ stepped right m (cond steep q n) → 65536 ≤ stepped right m (cond steep q′ (n + 1))
@@ -75,10 +76,10 @@ rows true t m q q′ n e a = omega arith
 rows false true m q q′ n e a = omega arith
 rows false false m q q′ n e a = omega arith
 
-module _ (k : Shape) (c : Course) (t : Bool) (n : ℕ) (wide : k .width ≤ 4096) (high : k .height ≤ 4096)
+module _ (k : Shape) (c : Course) (t : Bool) (n : ℕ) (disjoint : Disjoint k) (far : k .pitch ≤ 8192) (high : k .height ≤ 4096)
     (e : cond t (rise (c .long) (c .short) n + 1) (rise (c .long) (c .short) n) ≡ rise (c .long) (c .short) (n + 1))
     (o : On k (spotAt c n)) (o′ : On k (spotAt c (n + 1))) where
-  pub byte-hop : (byteOf k (spotAt c n) + cond t (bothBy (c .right) (k .width)) (aloneBy (c .right) (c .steep) (k .width))) % 2 ^ 64 ≡ byteOf k (spotAt c (n + 1))
+  pub byte-hop : (byteOf k (spotAt c n) + cond t (bothBy (c .right) (k .pitch)) (aloneBy (c .right) (c .steep) (k .pitch))) % 2 ^ 64 ≡ byteOf k (spotAt c (n + 1))
   unfolding spotAt
   byte-hop =
       let p = spotAt c n in
@@ -90,8 +91,8 @@ module _ (k : Shape) (c : Course) (t : Bool) (n : ℕ) (wide : k .width ≤ 4096
       let f : 65536 ≤ p .y = o .top in
       let f′ : 65536 ≤ q .y = o′ .top in
       let g′ : q .y < 65536 + k .height = o′ .bottom in
-      hop (k .width) (p .y - 65536) (p .x - 65536) (q .y - 65536) (q .x - 65536) wide (omega arith) (omega arith)
-      (row-small (k .width) (k .height) (q .y - 65536) wide high (omega arith))
+      hop (k .pitch) (p .y - 65536) (p .x - 65536) (q .y - 65536) (q .x - 65536) far (omega arith) (omega arith)
+      (row-small (k .pitch) (k .height) (q .y - 65536) far high (omega arith))
       (c .right) (c .steep) t
       (columns (c .right) (c .steep) t (c .x) (rise (c .long) (c .short) n) (rise (c .long) (c .short) (n + 1)) n e a a′)
       (rows (c .steep) t (c .y) (rise (c .long) (c .short) n) (rise (c .long) (c .short) (n + 1)) n e f)

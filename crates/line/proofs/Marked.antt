@@ -13,14 +13,14 @@ use Rattle.laws.proofs.Below.{any→, any-at, any-more}
 use Rattle.laws.proofs.Products.{lt-or-ge}
 use Rattle.laws.proofs.Tests.{same, is-false}
 use Rattle.sheet.specs.Sheet.{cellOf, isCell, paint, cellsOn}
-use Rattle.sheet.specs.Inner.{unmovedCell}
+use Rattle.sheet.specs.Inner.{unmovedCell, Disjoint}
 use Rattle.sheet.specs.declared.Cell.{Cell}
 use Rattle.sheet.specs.declared.Shape.{Shape}
 use Rattle.sheet.specs.declared.Spot.{Spot}
 use Rattle.sheet.proofs.Limits.{unmoved-cell}
 use Rattle.sheet.proofs.Paint.{paint-as, paint-none, paint-then}
 use Rattle.sheet.proofs.Count.{cells-as, cells-none, cells-more}
-use Rattle.sheet.proofs.Marks.{spot→, mark-on}
+use Rattle.sheet.proofs.Marks.{spot→, mark-on, inked-paints}
 use Rattle.line.specs.Rule.{rise}
 use Rattle.line.specs.Inner.Course.{stepped, spotAt, Runs, firstCells}
 use Rattle.line.specs.Inner.Span.{On, byteOf}
@@ -57,10 +57,11 @@ module _ (k : Shape) (c : Course) where
   unfolding firstCells any
   no-cells d = refl
 
-  pub paint-more : (ink : ℕ) (s : List ℕ) (n : ℕ) → On k (spotAt c n)
+  pub paint-more : Disjoint k → (ink : ℕ) (s : List ℕ) (n : ℕ) → On k (spotAt c n)
       → set (paint k ink (firstCells c n) s) (byteOf k (spotAt c n)) ink ≡ paint k ink (firstCells c (n + 1)) s
-  paint-more ink s n o =
+  paint-more w ink s n o =
       mark-on k ink (spotAt c n) (paint k ink (firstCells c n) s) (o .left) (o .top) (omega (arith, o .left, o .right)) (omega (arith, o .top, o .bottom))
+      ∙ inked-paints k ink (unmovedCell (spotAt c n)) (paint k ink (firstCells c n) s) w
       ∙ paint-then k ink (firstCells c n) (isCell (unmovedCell (spotAt c n))) s
       ∙ sym (paint-as k ink _ _ s (λ x y a b. more-cells n (cellOf x y)))
 
@@ -87,7 +88,7 @@ spot-once c r i j a b p q = by (c .steep) (c .right) p q
     by false true p q = omega arith
     by false false p q = omega (arith, r .limit, r .start-x .least)
 
-module _ (k : Shape) (c : Course) (r : Runs c) where
+module _ (k : Shape) (w : Disjoint k) (c : Course) (r : Runs c) where
   cells-one : (n : ℕ) → n ≤ c .long → On k (spotAt c n) → cellsOn k (firstCells c (n + 1)) ≡ cellsOn k (firstCells c n) + 1
   unfolding firstCells
   cells-one n l o =
@@ -98,7 +99,7 @@ module _ (k : Shape) (c : Course) (r : Runs c) where
       let v : p .y - 65536 < k .height = omega (arith, o .top, o .bottom) in
       cells-as k _ (λ (d : Cell). firstCells c n d || isCell (cellOf (p .x - 65536) (p .y - 65536)) d)
       (λ x y a b. more-cells k c n (cellOf x y) ∙ ap (λ (d : Cell). firstCells c n (cellOf x y) || isCell d (cellOf x y)) e)
-      ∙ cells-more k (firstCells c n) (p .x - 65536) (p .y - 65536) u v
+      ∙ cells-more k w (firstCells c n) (p .x - 65536) (p .y - 65536) u v
       (is-false (any n hit) (λ t.
       let f = any→ n hit t in
       let g = spot→ (spotAt c (f .at)) (p .x - 65536) (p .y - 65536) (f .passes) in

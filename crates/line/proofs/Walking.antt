@@ -9,7 +9,7 @@ use lib.Dec.{ltb}
 use lib.ListN.{length, set}
 use Rattle.laws.proofs.Products.{lt-or-ge}
 use Rattle.sheet.specs.Sheet.{bytes, place, paint, cellsOn}
-use Rattle.sheet.specs.Inner.{Sheet}
+use Rattle.sheet.specs.Inner.{Sheet, Disjoint}
 use Rattle.sheet.specs.declared.Shape.{Shape}
 use Rattle.sheet.proofs.Cells.{place-below}
 use Rattle.sheet.proofs.Count.{cells-as}
@@ -31,9 +31,9 @@ pub record Walking (k : Shape) (ink : ℕ) (c : Course) (first past : ℕ) (shee
   pub kept : length sheet ≡ bytes k
 
 -- a spot on the sheet is one of its bytes
-on-below : (k : Shape) (c : Course) (n : ℕ) → On k (spotAt c n) → byteOf k (spotAt c n) < bytes k
+on-below : (k : Shape) → Disjoint k → (c : Course) (n : ℕ) → On k (spotAt c n) → byteOf k (spotAt c n) < bytes k
 unfolding place
-on-below k c n o =
+on-below k w c n o =
     place-below k (spotAt c n .x - 65536) (spotAt c n .y - 65536) (omega (arith, o .left, o .right)) (omega (arith, o .top, o .bottom))
 
 module _ (k : Shape) (ink : ℕ) (c : Course) (first past : ℕ) (r : Runs c) (range : Spans k c first past) (more : first < past) where
@@ -58,19 +58,19 @@ module _ (k : Shape) (ink : ℕ) (c : Course) (first past : ℕ) (r : Runs c) (r
       ∙ paint-after k c ink sheet₀ past (c .long + 1) (range .low) (λ i u v. range .after i (omega arith) u)
 
   module _ (sheet₀ sheet : List ℕ) (part at n : ℕ) (g : Walking k ink c first past sheet₀ sheet part at n) (lt : n < past) where
-    pub at-below : at < length sheet
-    at-below = omega (arith, g .at-is lt, g .kept, on-below k c n (range .on n (g .from) lt))
+    pub at-below : Disjoint k → at < length sheet
+    at-below w = omega (arith, g .at-is lt, g .kept, on-below k w c n (range .on n (g .from) lt))
 
-    pub turn : (wide : k .width ≤ 4096) → (high : k .height ≤ 4096) → (f by next at′ : ℕ)
+    pub turn : (disjoint : Disjoint k) (far : k .pitch ≤ 8192) (high : k .height ≤ 4096) (f by next at′ : ℕ)
         → f ≡ gradient (c .long) (c .short)
         → next ≡ (part + f) % 2 ^ 32
-        → by ≡ cond (ltb next part) (bothBy (c .right) (k .width)) (aloneBy (c .right) (c .steep) (k .width))
+        → by ≡ cond (ltb next part) (bothBy (c .right) (k .pitch)) (aloneBy (c .right) (c .steep) (k .pitch))
         → at′ ≡ (at + by) % 2 ^ 64
         → Walking k ink c first past sheet₀ (set sheet at ink) next at′ (n + 1)
-    turn wide high f by next at′ hf hn hb ha =
+    turn disjoint far high f by next at′ hf hn hb ha =
         let o = range .on n (g .from) lt in
         let m : set sheet at ink ≡ paint k ink (firstCells c (n + 1)) sheet₀ =
-        (λ i. set (g .inked i) (g .at-is lt i) ink) ∙ paint-more k c ink sheet₀ n o in
+        (λ i. set (g .inked i) (g .at-is lt i) ink) ∙ paint-more k c disjoint ink sheet₀ n o in
         let z : first ≤ n = g .from in
         record {
           from = omega arith;
@@ -78,18 +78,18 @@ module _ (k : Shape) (ink : ℕ) (c : Course) (first past : ℕ) (r : Runs c) (r
           part-is = part-next (c .long) (c .short) n part f next (g .part-is) hf hn;
           at-is = λ p.
               let e = rise-next (c .long) (c .short) (r .shorter) (r .limit) n part f next (omega (arith, range .low)) (g .part-is) hf hn in
-              ha ∙ (λ i. (g .at-is lt i + hb i) % 2 ^ 64) ∙ byte-hop k c (ltb next part) n wide high e o (range .on (n + 1) (omega arith) p);
+              ha ∙ (λ i. (g .at-is lt i + hb i) % 2 ^ 64) ∙ byte-hop k c (ltb next part) n disjoint far high e o (range .on (n + 1) (omega arith) p);
           inked = m;
           kept = ap length m ∙ paint-length k ink (firstCells c (n + 1)) sheet₀ ∙ sym (ap length (g .inked) ∙ paint-length k ink (firstCells c n) sheet₀) ∙ g .kept;
         }
 
 -- how many cells are on the sheet, and what is drawn where there is none
-module _ (k : Shape) (c : Course) (r : Runs c) (first past : ℕ) (range : Spans k c first past) where
+module _ (k : Shape) (disjoint : Disjoint k) (c : Course) (r : Runs c) (first past : ℕ) (range : Spans k c first past) where
   pub counted : first < past → past - first ≡ cellsOn k (firstCells c (c .long + 1))
   counted p =
       let e : first + (past - first) ≡ past = omega arith in
       let l = range .low in
-      sym (cells-range k c r first (past - first) (omega arith) (λ i u. range .before i (omega arith) u) (λ i u v. range .on i u (omega arith)))
+      sym (cells-range k disjoint c r first (past - first) (omega arith) (λ i u. range .before i (omega arith) u) (λ i u v. range .on i u (omega arith)))
       ∙ ap (λ (n : ℕ). cellsOn k (firstCells c n)) e
       ∙ cells-as k _ _ (same-cells k c past (c .long + 1) l (λ i u v. range .after i (omega arith) u))
 
@@ -99,5 +99,5 @@ module _ (k : Shape) (c : Course) (r : Runs c) (first past : ℕ) (range : Spans
   pub nothing : past ≤ first → (ink : ℕ) (sheet : List ℕ) → (0 ≡ cellsOn k (firstCells c (c .long + 1))) × (sheet ≡ paint k ink (firstCells c (c .long + 1)) sheet)
   nothing p ink sheet =
       let e : c .long + 1 + 0 ≡ c .long + 1 = omega arith in
-      let n = cells-range k c r (c .long + 1) 0 (omega arith) (all-off p) (λ i u v. absurd (omega arith)) in
+      let n = cells-range k disjoint c r (c .long + 1) 0 (omega arith) (all-off p) (λ i u v. absurd (omega arith)) in
       (sym n ∙ ap (λ (n : ℕ). cellsOn k (firstCells c n)) e, paint-before k c ink sheet (c .long + 1) (all-off p))

@@ -1,15 +1,16 @@
 -- A line whose two ends are on the sheet is on it whole, and one of one cell or two is its ends.
 use Prim.Native.Nat.{ℕ, zero, suc, _+_, _≤_, _<_}
-use mathlib.Core.Path.{_≡_, refl, sym, _∙_}
+use mathlib.Core.Path.{_≡_, refl, sym, ap, _∙_}
 use mathlib.Core.Bool.{Bool, true, false, cond, _||_, or-self}
 use mathlib.Core.List.{List}
 use native.Mathlib.Omega.{arith}
 use Rattle.laws.specs.Below.{any}
 use Rattle.sheet.specs.Sheet.{cellOf, isCell, paint}
-use Rattle.sheet.specs.Inner.{unmovedCell}
+use Rattle.sheet.specs.Inner.{unmovedCell, inkedAt, Disjoint}
 use Rattle.sheet.specs.declared.Cell.{Cell}
 use Rattle.sheet.specs.declared.Shape.{Shape}
 use Rattle.sheet.specs.declared.Spot.{Spot}
+use Rattle.sheet.proofs.Marks.{inked-paints}
 use Rattle.sheet.proofs.Paint.{paint-as, paint-then}
 use Rattle.line.specs.Rule.{rise}
 use Rattle.line.specs.Inner.Course.{stepped, spotAt, Runs, firstCells}
@@ -66,9 +67,11 @@ end-cells c l d = by (λ (i : ℕ). isCell (unmovedCell (spotAt c i)) d) (c .lon
     by hit (suc zero) m = refl
     by hit (suc (suc n)) m = absurd (omega arith)
 
-pub ends-inked : (k : Shape) (ink : ℕ) (c : Course) → c .long ≤ 1 → (p q : Spot) → p ≡ spotAt c 0 → q ≡ spotAt c (c .long)
-    → (s : List ℕ) → paint k ink (isCell (unmovedCell q)) (paint k ink (isCell (unmovedCell p)) s) ≡ paint k ink (firstCells c (c .long + 1)) s
-ends-inked k ink c l p q e f s =
-    (λ i. paint k ink (isCell (unmovedCell (f i))) (paint k ink (isCell (unmovedCell (e i))) s))
+pub ends-inked : (k : Shape) (ink : ℕ) (c : Course) → Disjoint k → c .long ≤ 1 → (p q : Spot) → p ≡ spotAt c 0 → q ≡ spotAt c (c .long)
+    → (s : List ℕ) → inkedAt k ink (unmovedCell q) (inkedAt k ink (unmovedCell p) s) ≡ paint k ink (firstCells c (c .long + 1)) s
+ends-inked k ink c w l p q e f s =
+    inked-paints k ink (unmovedCell q) (inkedAt k ink (unmovedCell p) s) w
+    ∙ ap (paint k ink (isCell (unmovedCell q))) (inked-paints k ink (unmovedCell p) s w)
+    ∙ (λ i. paint k ink (isCell (unmovedCell (f i))) (paint k ink (isCell (unmovedCell (e i))) s))
     ∙ paint-then k ink _ _ s
     ∙ sym (paint-as k ink _ _ s (λ x y a b. end-cells c l (cellOf x y)))

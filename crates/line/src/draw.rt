@@ -6,7 +6,7 @@ ghost use Prim.Native.Nat.{_+_, _-_, _*_, _/_, _%_, _≤_, _<_};
 ghost use Rattle.sheet.specs.Sheet.{paint, cellsOn};
 ghost use Rattle.sheet.specs.Reply.{told};
 ghost use Rattle.sheet.specs.Drawing.{Draws};
-ghost use Rattle.sheet.specs.Inner.{Sheet};
+ghost use Rattle.sheet.specs.Inner.{Sheet, Disjoint};
 ghost use Rattle.line.specs.Rule.{rise};
 ghost use Rattle.line.specs.Draw.{lineDrawing};
 ghost use Rattle.line.specs.Inner.Course.{spotAt, Runs, firstCells};
@@ -146,33 +146,33 @@ fn is_whole(shape: Shape, course: Course) -> bool
 
 // The byte of the nth cell, which is on the sheet.
 fn byte_at(shape: Shape, course: Course, n: u32, q: u32) -> usize
-    requires { ⌜ (shape .width ≤ 4096) × (shape .height ≤ 4096) × Runs course ⌝ }
+    requires { ⌜ (shape .pitch ≤ 8192) × (shape .width ≤ 4096) × (shape .height ≤ 4096) × Runs course ⌝ }
     requires { ⌜ (n ≤ course .long) × (q ≡ rise (course .long) (course .short) n) × On shape (spotAt course n) ⌝ }
     ensures { λ r. ⌜ r ≡ byteOf shape (spotAt course n) ⌝ }
 {
-    let width = shape.width;
+    let pitch = shape.pitch;
     let spot = spot_of(course, n, q);
-    (spot.y - 65536) as usize * width as usize + (spot.x - 65536) as usize
+    (spot.y - 65536) as usize * pitch as usize + (spot.x - 65536) as usize
 }
 
 // What a step along the longer extent alone adds to a byte's place, and what a step along both adds, modulo 2^64.
-fn alone(right: bool, steep: bool, width: u32) -> usize
-    ensures { λ r. ⌜ r ≡ aloneBy right steep width ⌝ }
+fn alone(right: bool, steep: bool, pitch: u32) -> usize
+    ensures { λ r. ⌜ r ≡ aloneBy right steep pitch ⌝ }
 {
     if steep {
-        return width as usize;
+        return pitch as usize;
     }
     if right { 1 } else { 18446744073709551615 }
 }
 
-fn both(right: bool, width: u32) -> usize
-    requires { ⌜ 1 ≤ width ⌝ }
-    ensures { λ r. ⌜ r ≡ bothBy right width ⌝ }
+fn both(right: bool, pitch: u32) -> usize
+    requires { ⌜ 1 ≤ pitch ⌝ }
+    ensures { λ r. ⌜ r ≡ bothBy right pitch ⌝ }
 {
     if right {
-        width as usize + 1
+        pitch as usize + 1
     } else {
-        width as usize - 1
+        pitch as usize - 1
     }
 }
 
@@ -184,12 +184,12 @@ fn chosen_step(first: bool, a: usize, b: usize) -> usize
 
 // The byte's place after a turn: a step along both extents, or along the longer alone.
 fn hop(shape: Shape, course: Course, at: usize, across: bool) -> usize
-    requires { ⌜ 1 ≤ shape .width ⌝ }
-    ensures { λ r. ⌜ r ≡ (at + cond across (bothBy (course .right) (shape .width))
-        (aloneBy (course .right) (course .steep) (shape .width))) % 18446744073709551616 ⌝ }
+    requires { ⌜ 1 ≤ shape .pitch ⌝ }
+    ensures { λ r. ⌜ r ≡ (at + cond across (bothBy (course .right) (shape .pitch))
+        (aloneBy (course .right) (course .steep) (shape .pitch))) % 18446744073709551616 ⌝ }
 {
-    let two = both(course.right, shape.width);
-    let one = alone(course.right, course.steep, shape.width);
+    let two = both(course.right, shape.pitch);
+    let one = alone(course.right, course.steep, shape.pitch);
     std::num::wrapping_add_usize(at, chosen_step(across, two, one))
 }
 
@@ -215,7 +215,7 @@ fn walk(sheet: &mut [u8], shape: Shape, ink: u8, course: Course, first: u32, pas
 
 // Inks a line of one cell or two: they are its ends.
 fn ends(sheet: &mut [u8], shape: Shape, ink: u8, course: Course)
-    requires { ⌜ Runs course × (course .long ≤ 1) ⌝ }
+    requires { ⌜ Disjoint shape × Runs course × (course .long ≤ 1) ⌝ }
     ensures { λ r. ⌜ now (sheet .exit) ≡ paint shape ink (firstCells course (course .long + 1)) (now (sheet .entry)) ⌝ }
 {
     let first = spot_of(course, 0, 0);

@@ -38,7 +38,7 @@ unfolding lineAnswer
 line-tells k a b n =
     sheet-tells k n _
     (λ e. unless-tells (inLimits a && inLimits b) Coordinate _
-    (λ l. Tells.done _ (record { n = cellsOn k (onLine a b); is = refl; small = omega (arith, cells-most k n (onLine a b) e) })))
+    (λ l. Tells.done _ (record { n = cellsOn k (onLine a b); is = refl; small = omega (arith, cells-most (onLine a b) k n e) })))
 
 pub list-tells : (n m : ℕ) (a b : Cell) → Tells One (listAnswer n m a b)
 unfolding listAnswer

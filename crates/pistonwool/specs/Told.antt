@@ -24,9 +24,9 @@ replied n v = record { number = n; values = pos v ∷ [] }
 abbrev pub Keeps : ℕ → ℕ → ℕ → Type 0
 Keeps n before after = (n ≡ 0 → ⊥) → after ≡ before
 
--- the sheet of a width and a height, and the survey of its three numbers
-abbrev pub shapeOf : ℕ → ℕ → Shape
-shapeOf width height = record { width = width; height = height }
+-- the sheet and the survey, each of its three numbers
+abbrev pub shapeOf : ℕ → ℕ → ℕ → Shape
+shapeOf width height pitch = record { width = width; height = height; pitch = pitch }
 
 abbrev pub surveyOf : Float → Float → Float → Survey
 surveyOf east north size = record { east = east; north = north; size = size }

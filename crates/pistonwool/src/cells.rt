@@ -17,6 +17,7 @@ pub extern "C" fn pw_line(
     sheet: &mut [u8],
     width: u32,
     height: u32,
+    pitch: u32,
     ink: u8,
     x0: i32,
     y0: i32,
@@ -24,11 +25,15 @@ pub extern "C" fn pw_line(
     y1: i32,
     cells: &mut u32,
 ) -> u32
-    ensures { λ d. ⌜ Draws (lineDrawing (shapeOf width height) ink (cell x0 y0) (cell x1 y1))
+    ensures { λ d. ⌜ Draws (lineDrawing (shapeOf width height pitch) ink (cell x0 y0) (cell x1 y1))
         (now (sheet .entry)) (counted d (now (cells .exit))) (now (sheet .exit)) ⌝ }
     ensures { λ d. ⌜ Keeps d (now (cells .entry)) (now (cells .exit)) ⌝ }
 {
-    let shape = Shape { width, height };
+    let shape = Shape {
+        width,
+        height,
+        pitch,
+    };
     let from = Cell { x: x0, y: y0 };
     let to = Cell { x: x1, y: y1 };
     tell_cells(line::draw_line(sheet, shape, ink, from, to), cells)
@@ -40,15 +45,20 @@ pub extern "C" fn pw_circle(
     sheet: &mut [u8],
     width: u32,
     height: u32,
+    pitch: u32,
     ink: u8,
     x: i32,
     y: i32,
     r: u32,
 ) -> u32
-    ensures { λ d. ⌜ Draws (circleDrawing (shapeOf width height) ink (cell x y) r)
+    ensures { λ d. ⌜ Draws (circleDrawing (shapeOf width height pitch) ink (cell x y) r)
         (now (sheet .entry)) (numbered d) (now (sheet .exit)) ⌝ }
 {
-    let shape = Shape { width, height };
+    let shape = Shape {
+        width,
+        height,
+        pitch,
+    };
     let centre = Cell { x, y };
     let reply = ring::draw_circle(sheet, shape, ink, centre, r);
     reply.number()
@@ -60,16 +70,21 @@ pub extern "C" fn pw_ellipse(
     sheet: &mut [u8],
     width: u32,
     height: u32,
+    pitch: u32,
     ink: u8,
     x: i32,
     y: i32,
     a: u32,
     b: u32,
 ) -> u32
-    ensures { λ d. ⌜ Draws (ellipseDrawing (shapeOf width height) ink (cell x y) a b)
+    ensures { λ d. ⌜ Draws (ellipseDrawing (shapeOf width height pitch) ink (cell x y) a b)
         (now (sheet .entry)) (numbered d) (now (sheet .exit)) ⌝ }
 {
-    let shape = Shape { width, height };
+    let shape = Shape {
+        width,
+        height,
+        pitch,
+    };
     let centre = Cell { x, y };
     let reply = ring::draw_ellipse(sheet, shape, ink, centre, a, b);
     reply.number()
@@ -81,6 +96,7 @@ pub extern "C" fn pw_curve(
     sheet: &mut [u8],
     width: u32,
     height: u32,
+    pitch: u32,
     ink: u8,
     x0: i32,
     y0: i32,
@@ -90,10 +106,14 @@ pub extern "C" fn pw_curve(
     y2: i32,
     s: u32,
 ) -> u32
-    ensures { λ d. ⌜ Draws (curveDrawing (shapeOf width height) ink (cell x0 y0 ∷ cell x1 y1 ∷ cell x2 y2 ∷ []) s)
+    ensures { λ d. ⌜ Draws (curveDrawing (shapeOf width height pitch) ink (cell x0 y0 ∷ cell x1 y1 ∷ cell x2 y2 ∷ []) s)
         (now (sheet .entry)) (numbered d) (now (sheet .exit)) ⌝ }
 {
-    let shape = Shape { width, height };
+    let shape = Shape {
+        width,
+        height,
+        pitch,
+    };
     let p0 = Cell { x: x0, y: y0 };
     let p1 = Cell { x: x1, y: y1 };
     let p2 = Cell { x: x2, y: y2 };

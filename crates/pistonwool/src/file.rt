@@ -10,13 +10,18 @@ pub extern "C" fn pw_file(
     sheet: &mut [u8],
     width: u32,
     height: u32,
+    pitch: u32,
     file: &[u8],
     value: &mut u64,
 ) -> u32
-    ensures { λ d. ⌜ Draws (fileDrawing (shapeOf width height) (now (file .entry)))
+    ensures { λ d. ⌜ Draws (fileDrawing (shapeOf width height pitch) (now (file .entry)))
         (now (sheet .entry)) (replied d (now (value .exit))) (now (sheet .exit)) ⌝ }
 {
-    let shape = Shape { width, height };
+    let shape = Shape {
+        width,
+        height,
+        pitch,
+    };
     let reply = drawing::draw_file(sheet, shape, file);
     *value = reply.value() as u64;
     reply.number()

@@ -14,6 +14,7 @@ pub extern "C" fn pw_line_metres(
     sheet: &mut [u8],
     width: u32,
     height: u32,
+    pitch: u32,
     ink: u8,
     east: f64,
     north: f64,
@@ -24,11 +25,15 @@ pub extern "C" fn pw_line_metres(
     y1: f64,
     cells: &mut u32,
 ) -> u32
-    ensures { λ d. ⌜ Draws (metresDrawing (shapeOf width height) ink (surveyOf east north size) (metres.Line x0 y0 x1 y1))
+    ensures { λ d. ⌜ Draws (metresDrawing (shapeOf width height pitch) ink (surveyOf east north size) (metres.Line x0 y0 x1 y1))
         (now (sheet .entry)) (counted d (now (cells .exit))) (now (sheet .exit)) ⌝ }
     ensures { λ d. ⌜ Keeps d (now (cells .entry)) (now (cells .exit)) ⌝ }
 {
-    let shape = Shape { width, height };
+    let shape = Shape {
+        width,
+        height,
+        pitch,
+    };
     let survey = Survey { east, north, size };
     let figure = Metres::Line(x0, y0, x1, y1);
     tell_cells(
@@ -43,6 +48,7 @@ pub extern "C" fn pw_circle_metres(
     sheet: &mut [u8],
     width: u32,
     height: u32,
+    pitch: u32,
     ink: u8,
     east: f64,
     north: f64,
@@ -51,10 +57,14 @@ pub extern "C" fn pw_circle_metres(
     y: f64,
     r: f64,
 ) -> u32
-    ensures { λ d. ⌜ Draws (metresDrawing (shapeOf width height) ink (surveyOf east north size) (metres.Circle x y r))
+    ensures { λ d. ⌜ Draws (metresDrawing (shapeOf width height pitch) ink (surveyOf east north size) (metres.Circle x y r))
         (now (sheet .entry)) (numbered d) (now (sheet .exit)) ⌝ }
 {
-    let shape = Shape { width, height };
+    let shape = Shape {
+        width,
+        height,
+        pitch,
+    };
     let survey = Survey { east, north, size };
     let figure = Metres::Circle(x, y, r);
     let reply = drawing::draw_metres(sheet, shape, ink, survey, figure);
@@ -67,6 +77,7 @@ pub extern "C" fn pw_ellipse_metres(
     sheet: &mut [u8],
     width: u32,
     height: u32,
+    pitch: u32,
     ink: u8,
     east: f64,
     north: f64,
@@ -76,10 +87,14 @@ pub extern "C" fn pw_ellipse_metres(
     a: f64,
     b: f64,
 ) -> u32
-    ensures { λ d. ⌜ Draws (metresDrawing (shapeOf width height) ink (surveyOf east north size) (metres.Ellipse x y a b))
+    ensures { λ d. ⌜ Draws (metresDrawing (shapeOf width height pitch) ink (surveyOf east north size) (metres.Ellipse x y a b))
         (now (sheet .entry)) (numbered d) (now (sheet .exit)) ⌝ }
 {
-    let shape = Shape { width, height };
+    let shape = Shape {
+        width,
+        height,
+        pitch,
+    };
     let survey = Survey { east, north, size };
     let figure = Metres::Ellipse(x, y, a, b);
     let reply = drawing::draw_metres(sheet, shape, ink, survey, figure);

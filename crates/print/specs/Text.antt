@@ -21,7 +21,7 @@ inTurn (suc n) part = inTurn n part ++ part n
 
 -- a 16 by 8 sheet ..
 abbrev pub sheet : Shape
-sheet = record { width = 16; height = 8 }
+sheet = record { width = 16; height = 8; pitch = 16 }
 
 -- .. of zeros
 abbrev pub zeros : List ℕ

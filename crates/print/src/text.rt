@@ -102,6 +102,7 @@ pub fn text(file: &[u8], out: &mut [u8; 136]) -> usize
     let shape = Shape {
         width: 16,
         height: 8,
+        pitch: 16,
     };
     let reply = drawing::draw_file(&mut sheet, shape, file);
     if !reply.is_done() {

@@ -11,12 +11,12 @@ use Rattle.laws.proofs.Ints.{parts, to-≡ℤ}
 use Rattle.laws.proofs.Products.{lt-or-ge}
 use Rattle.laws.proofs.Tests.{or-l, or-r, or-e, same, eqb-of}
 use Rattle.sheet.specs.Sheet.{paint, cellOf, isCell}
-use Rattle.sheet.specs.Inner.{unmoved, unmovedCell}
+use Rattle.sheet.specs.Inner.{unmoved, unmovedCell, inkedAt, Disjoint}
 use Rattle.sheet.specs.declared.Cell.{Cell}
 use Rattle.sheet.specs.declared.Shape.{Shape}
 use Rattle.sheet.specs.declared.Spot.{Spot}
 use Rattle.sheet.proofs.Cells.{is-cell-refl}
-use Rattle.sheet.proofs.Marks.{spot→}
+use Rattle.sheet.proofs.Marks.{spot→, inked-paints}
 use Rattle.sheet.proofs.Paint.{paint-as}
 use Rattle.ring.specs.Ring.{away, around}
 use Rattle.ring.specs.Inner.{isOffset}
@@ -73,15 +73,15 @@ each-way false true true b = refl
 each-way false true false b = refl
 
 -- the four cells (±x, ±y), painted one after another
-pub painted-four : (p : Spot) (x y : ℕ) → x ≤ p .x → y ≤ p .y → (k : Shape) (ink : ℕ) (s t₁ t₂ t₃ t₄ : List ℕ)
-    → t₁ ≡ paint k ink (isCell (unmovedCell (record { x = p .x - x; y = p .y - y }))) s
-    → t₂ ≡ paint k ink (isCell (unmovedCell (record { x = p .x + x; y = p .y - y }))) t₁
-    → t₃ ≡ paint k ink (isCell (unmovedCell (record { x = p .x - x; y = p .y + y }))) t₂
-    → t₄ ≡ paint k ink (isCell (unmovedCell (record { x = p .x + x; y = p .y + y }))) t₃
+pub painted-four : (p : Spot) (x y : ℕ) → x ≤ p .x → y ≤ p .y → (k : Shape) → Disjoint k → (ink : ℕ) (s t₁ t₂ t₃ t₄ : List ℕ)
+    → t₁ ≡ inkedAt k ink (unmovedCell (record { x = p .x - x; y = p .y - y })) s
+    → t₂ ≡ inkedAt k ink (unmovedCell (record { x = p .x + x; y = p .y - y })) t₁
+    → t₃ ≡ inkedAt k ink (unmovedCell (record { x = p .x - x; y = p .y + y })) t₂
+    → t₄ ≡ inkedAt k ink (unmovedCell (record { x = p .x + x; y = p .y + y })) t₃
     → t₄ ≡ paint k ink (around (unmovedCell p) (isOffset x y)) s
 unfolding around isOffset
-painted-four p x y a b k ink s t₁ t₂ t₃ t₄ e₁ e₂ e₃ e₄ =
-    painted-then k ink _ _ s t₃ t₄ (painted-then k ink _ _ s t₂ t₃ (painted-then k ink _ _ s t₁ t₂ e₁ e₂) e₃) e₄
+painted-four p x y a b k w ink s t₁ t₂ t₃ t₄ e₁ e₂ e₃ e₄ =
+    painted-then k ink _ _ s t₃ t₄ (painted-then k ink _ _ s t₂ t₃ (painted-then k ink _ _ s t₁ t₂ (on _ s t₁ e₁) (on _ t₁ t₂ e₂)) (on _ t₂ t₃ e₃)) (on _ t₃ t₄ e₄)
     ∙ paint-as k ink _ _ s (λ i j _ _.
     ap₂ _||_
     (ap₂ _||_
@@ -92,3 +92,6 @@ painted-four p x y a b k ink s t₁ t₂ t₃ t₄ e₁ e₂ e₃ e₄ =
     (spot-is (record { x = p .x + x; y = p .y + y }) i j)
     ∙ each-way (eqb (i + 65536) (p .x - x)) (eqb (i + 65536) (p .x + x)) (eqb (j + 65536) (p .y - y)) (eqb (j + 65536) (p .y + y))
     ∙ ap₂ _&&_ (left-or-right i (p .x) x a) (left-or-right j (p .y) y b))
+  where
+    on : (c : Cell) (t u : List ℕ) → u ≡ inkedAt k ink c t → u ≡ paint k ink (isCell c) t
+    on c t u e = e ∙ inked-paints k ink c t w

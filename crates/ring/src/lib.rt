@@ -5,7 +5,7 @@ ghost use Prim.Native.Nat.{_≤_, _<_};
 ghost use Rattle.sheet.specs.Sheet.{paint};
 ghost use Rattle.sheet.specs.Reply.{told};
 ghost use Rattle.sheet.specs.Drawing.{Draws};
-ghost use Rattle.sheet.specs.Inner.{unmovedCell};
+ghost use Rattle.sheet.specs.Inner.{unmovedCell, Disjoint};
 ghost use Rattle.ring.specs.Ring.{around, circleRule, ellipseRule};
 ghost use Rattle.ring.specs.Draw.{circleDrawing, ellipseDrawing};
 ghost use Rattle.ring.specs.Inner.{edge, Least, Centred, isOffset, turned, columns};
@@ -34,7 +34,7 @@ fn stepped_down(aa: u64, n: u64, from: u64) -> u64
 
 // Inks the four cells (±x, ±y) from the centre.
 fn ink_four(sheet: &mut [u8], shape: Shape, ink: u8, centre: Spot, x: u32, y: u32)
-    requires { ⌜ Centred centre × (x ≤ 16383) × (y ≤ 16383) ⌝ }
+    requires { ⌜ Centred centre × Disjoint shape × (x ≤ 16383) × (y ≤ 16383) ⌝ }
     ensures { λ r. ⌜ now (sheet .exit) ≡ paint shape ink (around (unmovedCell centre) (isOffset x y)) (now (sheet .entry)) ⌝ }
 {
     let left = centre.x - x;
@@ -49,7 +49,7 @@ fn ink_four(sheet: &mut [u8], shape: Shape, ink: u8, centre: Spot, x: u32, y: u3
 
 // Inks them where they are wanted.
 fn ink_wanted(sheet: &mut [u8], shape: Shape, ink: u8, centre: Spot, wanted: bool, x: u32, y: u32)
-    requires { ⌜ Centred centre × (x ≤ 16383) × (y ≤ 16383) ⌝ }
+    requires { ⌜ Centred centre × Disjoint shape × (x ≤ 16383) × (y ≤ 16383) ⌝ }
     ensures { λ r. ⌜ now (sheet .exit)
         ≡ paint shape ink (around (unmovedCell centre) (λ u v. wanted && isOffset x y u v)) (now (sheet .entry)) ⌝ }
 {
@@ -69,7 +69,7 @@ fn ink_turned(
     x: u64,
     y: u64,
 )
-    requires { ⌜ Centred centre × (x ≤ 16383) × (y ≤ 16383) ⌝ }
+    requires { ⌜ Centred centre × Disjoint shape × (x ≤ 16383) × (y ≤ 16383) ⌝ }
     ensures { λ r. ⌜ now (sheet .exit)
         ≡ paint shape ink (around (unmovedCell centre) (turned straight turn (isOffset x y))) (now (sheet .entry)) ⌝ }
 {
@@ -91,7 +91,7 @@ fn sweep(
     a: u64,
     b: u64,
 )
-    requires { ⌜ Centred centre × (1 ≤ a) × (a ≤ 16383) × (b ≤ 16383) ⌝ }
+    requires { ⌜ Centred centre × Disjoint shape × (1 ≤ a) × (a ≤ 16383) × (b ≤ 16383) ⌝ }
     ensures { λ r. ⌜ now (sheet .exit)
         ≡ paint shape ink (around (unmovedCell centre) (turned straight turn (columns a b))) (now (sheet .entry)) ⌝ }
 {
@@ -111,7 +111,7 @@ fn sweep(
 
 // Inks the ellipse about the centre.
 fn ellipse_on(sheet: &mut [u8], shape: Shape, ink: u8, centre: Spot, a: u64, b: u64)
-    requires { ⌜ Centred centre × (1 ≤ a) × (a ≤ 16383) × (1 ≤ b) × (b ≤ 16383) ⌝ }
+    requires { ⌜ Centred centre × Disjoint shape × (1 ≤ a) × (a ≤ 16383) × (1 ≤ b) × (b ≤ 16383) ⌝ }
     ensures { λ r. ⌜ now (sheet .exit) ≡ paint shape ink (around (unmovedCell centre) (ellipseRule a b)) (now (sheet .entry)) ⌝ }
 {
     sweep(sheet, shape, ink, centre, true, false, a, b);
@@ -120,7 +120,7 @@ fn ellipse_on(sheet: &mut [u8], shape: Shape, ink: u8, centre: Spot, a: u64, b: 
 
 // Inks the circle about the centre: from radius 1 up it is the ellipse of equal axes, whose rows are its columns turned.
 fn circle_on(sheet: &mut [u8], shape: Shape, ink: u8, centre: Spot, r: u64)
-    requires { ⌜ Centred centre × (r ≤ 16383) ⌝ }
+    requires { ⌜ Centred centre × Disjoint shape × (r ≤ 16383) ⌝ }
     ensures { λ d. ⌜ now (sheet .exit) ≡ paint shape ink (around (unmovedCell centre) (circleRule r)) (now (sheet .entry)) ⌝ }
 {
     if r == 0 {

@@ -74,15 +74,15 @@ unfolding isCell
 is-cell-refl c = and-i (eqZ (c .x) (c .x)) (eqZ (c .y) (c .y)) (eqZ-refl (c .x)) (eqZ-refl (c .y))
 
 -- the byte of a cell is that cell's, and no byte but its own is a cell's
-pub cell-at-place : (k : Shape) (x y : ℕ) → x < k .width → cellAt k (place k (cellOf x y)) ≡ cellOf x y
+pub cell-at-place : (k : Shape) (x y : ℕ) → x < k .pitch → cellAt k (place k (cellOf x y)) ≡ cellOf x y
 unfolding cellAt place
 cell-at-place k x y l = λ i. record { x = pos (digits-mod y l i); y = pos (digits-div y l i) }
 
 pub place-cell-at : (k : Shape) (n : ℕ) → place k (cellAt k n) ≡ n
 unfolding cellAt place
-place-cell-at k n = div-add-mod' n (k .width)
+place-cell-at k n = div-add-mod' n (k .pitch)
 
 -- the byte of a cell of the sheet is one of the sheet's
-pub place-below : (k : Shape) (x y : ℕ) → x < k .width → y < k .height → place k (cellOf x y) < bytes k
+pub place-below : (k : Shape) (x y : ℕ) → x < k .pitch → y < k .height → place k (cellOf x y) < bytes k
 unfolding place
-place-below k x y a b = subst (λ (n : ℕ). y * k .width + x < n) (mul-comm (k .height) (k .width)) (digits-lt b a)
+place-below k x y a b = subst (λ (n : ℕ). y * k .pitch + x < n) (mul-comm (k .height) (k .pitch)) (digits-lt b a)

@@ -8,4 +8,5 @@ pub mod Limits
 pub mod Marks
 pub mod Draws
 pub mod Lent
+pub mod Pitch
 pub mod Unique

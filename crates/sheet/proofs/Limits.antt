@@ -16,39 +16,62 @@ use mir.Facts.{toZ-ofZ}
 use Rattle.laws.proofs.Parts.{up, dn}
 use Rattle.laws.proofs.Ints.{le-parts, one-zero, parts, to-≡ℤ, is-leZ, no-leZ}
 use Rattle.laws.proofs.Tests.{and-l, and-r, from-true, halves}
-use Rattle.sheet.specs.Sheet.{size, sized, bytes, coordinate, inLimits, cellOf}
-use Rattle.sheet.specs.Inner.{moved, unmoved, movedCell, unmovedCell, lowered, loweredCell, Moved, fits, Sheet}
+use Rattle.sheet.specs.Sheet.{size, pitched, sized, bytes, sliced, coordinate, inLimits, cellOf}
+use Rattle.sheet.specs.Inner.{moved, unmoved, movedCell, unmovedCell, lowered, loweredCell, Moved, fits, Sheet, Disjoint}
 use Rattle.sheet.specs.declared.Cell.{Cell}
 use Rattle.sheet.specs.declared.Shape.{Shape}
 use Rattle.sheet.specs.declared.Spot.{Spot}
 
--- no sheet has more than 4,096 × 4,096 cells
+-- the limits of the sizes that other limits follow from
+sized-parts : (k : Shape) → sized k ≡ true → (k .width ≤ 4096) × (k .height ≤ 4096) × Disjoint k × (k .pitch ≤ 8192)
+sized-parts k e =
+    let t : T (size (k .width) && size (k .height) && pitched (k .width) (k .pitch)) = from-true (sized k) e in
+    (search (leb→le, and-l, and-r), search (leb→le, and-l, and-r), search (leb→le, and-l, and-r), search (leb→le, and-l, and-r))
+
+-- no sheet has more than 8,192 × 4,096 bytes, nor 4,096 × 4,096 cells
+pub bytes-most : (k : Shape) → sized k ≡ true → bytes k ≤ 33554432
+bytes-most k e = let p = sized-parts k e in mul-le-mul {n₁ = k .pitch} {m₁ = k .height} {n₂ = 8192} {m₂ = 4096} (p .3) (p .1)
+
 pub sides-most : (k : Shape) → sized k ≡ true → k .width * k .height ≤ 16777216
-sides-most k e =
-    let t : T (size (k .width) && size (k .height)) = from-true (sized k) e in
-    let w : k .width ≤ 4096 = search (leb→le, and-l, and-r) in
-    let h : k .height ≤ 4096 = search (leb→le, and-l, and-r) in
-    mul-le-mul {n₁ = k .width} {m₁ = k .height} {n₂ = 4096} {m₂ = 4096} w h
+sides-most k e = let p = sized-parts k e in mul-le-mul {n₁ = k .width} {m₁ = k .height} {n₂ = 4096} {m₂ = 4096} (p .0) (p .1)
+
+-- where a slice fits, rows are no longer than the pitch
+pub fits-disjoint : (k : Shape) (n : ℕ) → fits k n ≡ true → Disjoint k
+unfolding fits
+fits-disjoint k n e = sized-parts k (halves (sized k) (sliced k n) e .0) .2
 
 -- a slice that fits is a sheet
 pub fits-sheet : (k : Shape) (s : List ℕ) → fits k (length s) ≡ true → Sheet k s
 unfolding fits
 fits-sheet k s e =
-    let t : T ((size (k .width) && size (k .height)) && eqb (length s) (bytes k)) = from-true (fits k (length s)) e in
+    let t : T ((size (k .width) && size (k .height) && pitched (k .width) (k .pitch)) && eqb (length s) (bytes k)) = from-true (fits k (length s)) e in
     record {
       area = search (eqb→eq, and-l, and-r);
       broad = search (leb→le, and-l, and-r);
       wide = search (leb→le, and-l, and-r);
       deep = search (leb→le, and-l, and-r);
       high = search (leb→le, and-l, and-r);
+      disjoint = search (leb→le, and-l, and-r);
+      far = search (leb→le, and-l, and-r);
     }
 
 -- and a sheet fits
 pub sheet-fits : (k : Shape) (s : List ℕ) → Sheet k s → fits k (length s) ≡ true
 unfolding fits
 sheet-fits k s z =
-    simp
-    (le-leb 1 (k .width) (z .broad), le-leb (k .width) 4096 (z .wide), le-leb 1 (k .height) (z .deep), le-leb (k .height) 4096 (z .high), eq-eqb (length s) (bytes k) (z .area))
+    simp (
+      le-leb 1 (k .width) (z .broad),
+      le-leb (k .width) 4096 (z .wide),
+      le-leb 1 (k .height) (z .deep),
+      le-leb (k .height) 4096 (z .high),
+      le-leb (k .width) (k .pitch) (z .disjoint),
+      le-leb (k .pitch) 8192 (z .far),
+      eq-eqb (length s) (bytes k) (z .area),
+    )
+
+-- as many bytes are a sheet too
+pub still-sheet : (k : Shape) (s t : List ℕ) → length t ≡ length s → Sheet k s → Sheet k t
+still-sheet k s t e z = fits-sheet k t (ap (fits k) e ∙ sheet-fits k s z)
 
 -- a coordinate within the limits, by its parts
 pub limit-low : (z : ℤ) → coordinate z ≡ true → dn z ≤ 16384

@@ -3,11 +3,14 @@ use Prim.Native.Nat.{ℕ, _<_}
 use mathlib.Core.Path.{_≡_, refl, sym, subst, ap, _∙_}
 use mathlib.Core.List.{List, [], _∷_}
 use mathlib.Core.Bool.{Bool, true, false, cond, _&&_, _||_, and-false, and-or-distrib-left, or-self}
+use native.Mathlib.Omega.{arith}
 use lib.ListN.{length, getD, set}
 use lib.Dec.{T, eqb, eqb→eq}
 use Rattle.laws.proofs.Tests.{and-r, and-i, same, from-true, eqb-of}
 use Rattle.sheet.specs.Sheet.{onSheet, place, cellOf, cellAt, held, paint, isCell}
+use Rattle.sheet.specs.Pitch.{Padding}
 use Rattle.sheet.specs.Drawing.{Inked, paintAll}
+use Rattle.sheet.specs.Inner.{Disjoint}
 use Rattle.sheet.specs.declared.Cell.{Cell}
 use Rattle.sheet.specs.declared.Shape.{Shape}
 use Rattle.sheet.proofs.Cells.{on-sheet, sheet-cell, in-sheet, is-cell→, is-cell-refl, cell-at-place, place-cell-at}
@@ -38,14 +41,23 @@ module _ (k : Shape) where
   unfolding held
   held-then f g n = sym (and-or-distrib-left (onSheet k (cellAt k n)) (f (cellAt k n)) (g (cellAt k n)))
 
+  -- padding is no cell's
+  pub held-padding : (f : Cell → Bool) (n : ℕ) → Padding k n → held k f n ≡ false
+  unfolding held cellAt
+  held-padding f n l = by (onSheet k (cellAt k n)) refl
+    where
+      by : (t : Bool) → onSheet k (cellAt k n) ≡ t → (t && f (cellAt k n)) ≡ false
+      by true e = absurd (omega (arith, in-sheet k _ _ e .0))
+      by false e = refl
+
   -- the byte of a cell on the sheet
-  pub held-cell : (f : Cell → Bool) (x y : ℕ) → x < k .width → y < k .height → held k f (place k (cellOf x y)) ≡ f (cellOf x y)
+  pub held-cell : Disjoint k → (f : Cell → Bool) (x y : ℕ) → x < k .width → y < k .height → held k f (place k (cellOf x y)) ≡ f (cellOf x y)
   unfolding held
-  held-cell f x y a b =
-      ap (λ (c : Cell). onSheet k c && f c) (cell-at-place k x y a) ∙ ap (λ (t : Bool). t && f (cellOf x y)) (on-sheet k x y a b)
+  held-cell w f x y a b =
+      ap (λ (c : Cell). onSheet k c && f c) (cell-at-place k x y (omega arith)) ∙ ap (λ (t : Bool). t && f (cellOf x y)) (on-sheet k x y a b)
 
 -- the byte of one cell
-module _ (k : Shape) (x y : ℕ) (a : x < k .width) (b : y < k .height) (n : ℕ) where
+module _ (k : Shape) (w : Disjoint k) (x y : ℕ) (a : x < k .width) (b : y < k .height) (n : ℕ) where
   at-cell : T (held k (isCell (cellOf x y)) n) → T (eqb n (place k (cellOf x y)))
   unfolding held
   at-cell t =
@@ -55,7 +67,7 @@ module _ (k : Shape) (x y : ℕ) (a : x < k .width) (b : y < k .height) (n : ℕ
   cell-held : T (eqb n (place k (cellOf x y))) → T (held k (isCell (cellOf x y)) n)
   unfolding held
   cell-held t =
-      let e : cellOf x y ≡ cellAt k n = sym (ap (cellAt k) (eqb→eq n (place k (cellOf x y)) t) ∙ cell-at-place k x y a) in
+      let e : cellOf x y ≡ cellAt k n = sym (ap (cellAt k) (eqb→eq n (place k (cellOf x y)) t) ∙ cell-at-place k x y (omega arith)) in
       let on = from-true (onSheet k (cellOf x y)) (on-sheet k x y a b) in
       let own : T (onSheet k (cellOf x y) && isCell (cellOf x y) (cellOf x y)) = and-i (onSheet k (cellOf x y)) (isCell (cellOf x y) (cellOf x y)) on (is-cell-refl (cellOf x y)) in
       subst (λ (c : Cell). T (onSheet k c && isCell (cellOf x y) c)) e own
@@ -83,10 +95,11 @@ module _ (k : Shape) (ink : ℕ) where
       ∙ by-as _ _ s (λ n v l. twice ink (held k f n) (held k g n) v ∙ ap (λ (t : Bool). cond t ink v) (held-then k f g n))
 
   -- one cell of the sheet is one byte
-  pub paint-one : (x y : ℕ) (s : List ℕ) → x < k .width → y < k .height → paint k ink (isCell (cellOf x y)) s ≡ set s (place k (cellOf x y)) ink
+  pub paint-one : Disjoint k → (x y : ℕ) (s : List ℕ) → x < k .width → y < k .height
+      → paint k ink (isCell (cellOf x y)) s ≡ set s (place k (cellOf x y)) ink
   unfolding paint
-  paint-one x y s a b =
-      by-as _ (λ (n v : ℕ). cond (eqb n (place k (cellOf x y))) ink v) s (λ n v l. ap (λ (t : Bool). cond t ink v) (held-one k x y a b n))
+  paint-one w x y s a b =
+      by-as _ (λ (n v : ℕ). cond (eqb n (place k (cellOf x y))) ink v) s (λ n v l. ap (λ (t : Bool). cond t ink v) (held-one k w x y a b n))
       ∙ by-one s (place k (cellOf x y)) ink
 
   -- the length is kept
@@ -100,11 +113,11 @@ module _ (k : Shape) (ink : ℕ) where
   paint-byte f s n l = getD-by _ s n l
 
   -- each cell of the sheet, by its place
-  pub paint-cell : (f : Cell → Bool) (s : List ℕ) (c : Cell) → onSheet k c ≡ true → place k c < length s
+  pub paint-cell : Disjoint k → (f : Cell → Bool) (s : List ℕ) (c : Cell) → onSheet k c ≡ true → place k c < length s
       → getD (paint k ink f s) (place k c) 0 ≡ cond (f c) ink (getD s (place k c) 0)
-  paint-cell f s c e l =
+  paint-cell w f s c e l =
       let o = sheet-cell k c e in
-      let h : held k f (place k c) ≡ f c = rw (o .is-cell) (held-cell k f (o .column) (o .row) (o .in-width) (o .in-height)) in
+      let h : held k f (place k c) ≡ f c = rw (o .is-cell) (held-cell k w f (o .column) (o .row) (o .in-width) (o .in-height)) in
       paint-byte f s (place k c) l ∙ ap (λ (t : Bool). cond t ink (getD s (place k c) 0)) h
 
   -- painting twice is painting once

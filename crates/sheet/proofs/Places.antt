@@ -21,6 +21,13 @@ getD-by f [] n l = absurd (omega arith)
 getD-by f (v ∷ s) zero l = refl
 getD-by f (v ∷ s) (suc n) l = getD-by (λ (n : ℕ). f (suc n)) s n (omega arith)
 
+-- a place that is not changed; past the end there is none
+pub getD-kept : (f : ℕ → ℕ → ℕ) (s : List ℕ) (n : ℕ) → ((v : ℕ) → f n v ≡ v) → getD (byPlace f s) n 0 ≡ getD s n 0
+unfolding byPlace
+getD-kept f [] n h = refl
+getD-kept f (v ∷ s) zero h = h v
+getD-kept f (v ∷ s) (suc n) h = getD-kept (λ (n : ℕ). f (suc n)) s n h
+
 -- equal changes at each place
 pub by-as : (f g : ℕ → ℕ → ℕ) (s : List ℕ) → ((n v : ℕ) → n < length s → f n v ≡ g n v) → byPlace f s ≡ byPlace g s
 unfolding byPlace

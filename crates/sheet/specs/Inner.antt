@@ -3,9 +3,9 @@ use Prim.Native.Nat.{ℕ, _≤_}
 use mathlib.Core.Path.{_≡_}
 use mathlib.Core.List.{List}
 use mathlib.Core.Bool.{Bool, cond, _&&_}
-use lib.ListN.{length}
+use lib.ListN.{length, set}
 use lib.IntN.{ℤ, pos, natAbs, _+ℤ_, _-ℤ_}
-use Rattle.sheet.specs.Sheet.{sized, bytes, sliced, coordinate}
+use Rattle.sheet.specs.Sheet.{sized, bytes, sliced, onSheet, place, coordinate}
 use Rattle.sheet.specs.declared.Cell.{Cell}
 use Rattle.sheet.specs.declared.Shape.{Shape}
 use Rattle.sheet.specs.declared.Spot.{Spot}
@@ -38,6 +38,10 @@ pub record Moved (m : ℕ) : Type 0 where
   pub least : 49152 ≤ m
   pub most : m ≤ 81919
 
+-- no two rows share a byte
+abbrev pub Disjoint : Shape → Type 0
+Disjoint k = k .width ≤ k .pitch
+
 -- a slice of n bytes is a sheet of the shape
 unfoldable pub fits : Shape → ℕ → Bool
 fits k n = sized k && sliced k n
@@ -49,3 +53,9 @@ pub record Sheet (k : Shape) (s : List ℕ) : Type 0 where
   pub wide : k .width ≤ 4096
   pub deep : 1 ≤ k .height
   pub high : k .height ≤ 4096
+  pub disjoint : Disjoint k
+  pub far : k .pitch ≤ 8192
+
+-- the bytes with a cell's own set to the ink, where the cell is on the sheet
+unfoldable pub inkedAt : Shape → ℕ → Cell → List ℕ → List ℕ
+inkedAt k ink c s = cond (onSheet k c) (set s (place k c) ink) s

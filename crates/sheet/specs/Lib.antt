@@ -1,5 +1,6 @@
 pub mod Sheet
 pub mod Reply
 pub mod Drawing
+pub mod Pitch
 pub mod Figure
 pub mod Inner

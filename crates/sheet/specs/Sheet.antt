@@ -1,4 +1,4 @@
--- Document 01, "The sheet".
+-- Document 01, "The sheet", with the pitch of document 02, K5.
 use Prim.Native.Nat.{ℕ, suc, _+_, _*_, _/_, _%_}
 use mathlib.Core.List.{List, [], _∷_}
 use mathlib.Core.Bool.{Bool, cond, _&&_}
@@ -10,16 +10,19 @@ use Rattle.laws.specs.Equal.{eqZ}
 use Rattle.sheet.specs.declared.Cell.{Cell}
 use Rattle.sheet.specs.declared.Shape.{Shape}
 
--- Width and height are each 1 to 4,096.
+-- Width and height are each 1 to 4,096; the pitch is from width to 8,192.
 abbrev pub size : ℕ → Bool
 size n = leb 1 n && leb n 4096
 
-abbrev pub sized : Shape → Bool
-sized k = size (k .width) && size (k .height)
+abbrev pub pitched : ℕ → ℕ → Bool
+pitched width pitch = leb width pitch && leb pitch 8192
 
--- The slice has exactly width × height bytes.
+abbrev pub sized : Shape → Bool
+sized k = size (k .width) && size (k .height) && pitched (k .width) (k .pitch)
+
+-- The slice has exactly pitch × height bytes.
 abbrev pub bytes : Shape → ℕ
-bytes k = k .width * k .height
+bytes k = k .pitch * k .height
 
 abbrev pub sliced : Shape → ℕ → Bool
 sliced k n = eqb n (bytes k)
@@ -28,11 +31,11 @@ sliced k n = eqb n (bytes k)
 unfoldable pub onSheet : Shape → Cell → Bool
 onSheet k c = leZ (pos 0) (c .x) && ltZ (c .x) (pos (k .width)) && leZ (pos 0) (c .y) && ltZ (c .y) (pos (k .height))
 
--- .. is byte y × width + x.
+-- .. is byte y × pitch + x.
 unfoldable pub place : Shape → Cell → ℕ
-place k c = natAbs (c .y) * k .width + natAbs (c .x)
+place k c = natAbs (c .y) * k .pitch + natAbs (c .x)
 
--- the cell of an x and a y; of a column and a row; the cell that byte n is
+-- the cell of an x and a y; of a column and a row; the cell that byte n is, which is off the sheet where the byte is padding
 abbrev pub cell : ℤ → ℤ → Cell
 cell x y = record { x = x; y = y }
 
@@ -40,7 +43,7 @@ abbrev pub cellOf : ℕ → ℕ → Cell
 cellOf x y = cell (pos x) (pos y)
 
 unfoldable pub cellAt : Shape → ℕ → Cell
-cellAt k n = cellOf (n % k .width) (n / k .width)
+cellAt k n = cellOf (n % k .pitch) (n / k .pitch)
 
 -- whether byte n is one of the figure's cells that lie on the sheet
 unfoldable pub held : Shape → (Cell → Bool) → ℕ → Bool

@@ -1,10 +1,10 @@
 // The sheet, the table of refusals, and marking: what every figure stands on.
 ghost use mathlib.Core.Path.{_≡_};
 ghost use mathlib.Core.List.{[]};
-ghost use Rattle.sheet.specs.Sheet.{size, coordinate, inLimits, radius, semiAxis, split, isCell, paint};
+ghost use Rattle.sheet.specs.Sheet.{size, pitched, coordinate, inLimits, radius, semiAxis, split};
 ghost use Rattle.sheet.specs.Reply.{number, done, told, isDone, valueOf};
 ghost use Rattle.sheet.specs.Drawing.{ifSheet, Draws, markDrawing};
-ghost use Rattle.sheet.specs.Inner.{moved, lowered, movedCell, unmovedCell, loweredCell};
+ghost use Rattle.sheet.specs.Inner.{moved, lowered, movedCell, unmovedCell, loweredCell, inkedAt};
 
 // A cell of the unlimited grid. A pen that C lends holds two, so it has C's layout.
 #[repr(C)]
@@ -31,15 +31,16 @@ pub enum Figure {
     Curve(Cell, Cell, Cell, u32),
 }
 
-// The size of a sheet.
+// The size of a sheet, and its pitch: how many bytes after a cell the one below it stands.
 pub struct Shape {
     pub width: u32,
     pub height: u32,
+    pub pitch: u32,
 }
 
 // Why an input is refused: one case for each number of the table.
 pub enum Refusal {
-    // 1: a sheet size is outside its limits.
+    // 1: a sheet size or pitch is outside its limits.
     Size,
     // 2: a coordinate is outside its limits; a curve has those of its control points.
     Coordinate,
@@ -59,7 +60,7 @@ pub enum Refusal {
     Kind,
     // 10: record length not the length of its kind.
     Length,
-    // 15: the slice length differs from width × height.
+    // 15: the slice length differs from pitch × height.
     Slice,
     // 16: record length under 2, so that it has no kind.
     Kindless,
@@ -137,16 +138,24 @@ fn is_size(n: u32) -> bool
     (1 <= n) & (n <= 4096)
 }
 
+// Whether a pitch is within its limits, for rows of this width.
+fn is_pitch(width: u32, pitch: u32) -> bool
+    ensures { λ r. ⌜ r ≡ pitched width pitch ⌝ }
+{
+    (width <= pitch) & (pitch <= 8192)
+}
+
 // Tests a sheet, as every drawing does first: done, where a slice of this many bytes is one of the shape.
 pub fn check(shape: Shape, bytes: usize) -> Reply
     ensures { λ r. ⌜ told r ≡ ifSheet shape bytes (done []) ⌝ }
 {
     let width = shape.width;
     let height = shape.height;
-    if !(is_size(width) & is_size(height)) {
+    let pitch = shape.pitch;
+    if !(is_size(width) & is_size(height) & is_pitch(width, pitch)) {
         return Reply::Refused(Refusal::Size);
     }
-    if bytes != width as usize * height as usize {
+    if bytes != pitch as usize * height as usize {
         return Reply::Refused(Refusal::Slice);
     }
     Reply::Done
@@ -236,12 +245,13 @@ pub fn in_limits(cell: Cell) -> bool
 
 // Sets the cell at the spot to the ink where it is on the sheet; any other is skipped.
 pub fn ink_at(sheet: &mut [u8], shape: Shape, ink: u8, spot: Spot)
-    ensures { λ r. ⌜ now (sheet .exit) ≡ paint shape ink (isCell (unmovedCell spot)) (now (sheet .entry)) ⌝ }
+    ensures { λ r. ⌜ now (sheet .exit) ≡ inkedAt shape ink (unmovedCell spot) (now (sheet .entry)) ⌝ }
 {
     let x = spot.x;
     let y = spot.y;
     let width = shape.width;
     let height = shape.height;
+    let pitch = shape.pitch;
     if x < 65536 {
         return;
     }
@@ -256,7 +266,7 @@ pub fn ink_at(sheet: &mut [u8], shape: Shape, ink: u8, spot: Spot)
     if height <= row {
         return;
     }
-    let at = row as usize * width as usize + column as usize;
+    let at = row as usize * pitch as usize + column as usize;
     if sheet.len() <= at {
         return;
     }

@@ -80,7 +80,7 @@ fn main() -> ExitCode {
         }
     };
     let mut sheet = vec![0; WIDTH * HEIGHT];
-    let lent = Lent { bytes: &mut sheet, width: WIDTH as u32, height: HEIGHT as u32 };
+    let lent = Lent { bytes: &mut sheet, width: WIDTH as u32, height: HEIGHT as u32, pitch: WIDTH as u32 };
     let mut offset = 0;
     let number = native::file(lent, &file, &mut offset);
     if number != 0 {

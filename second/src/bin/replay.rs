@@ -4,7 +4,7 @@
 //!     replay                prints what examples/replay.txt has
 //!     replay --old-twice    the old kit in the library's place: this must fail
 use second::native::{self, Cells, Lent};
-use second::rule::{cells_from, Figure, Rules, Sheet};
+use second::rule::{cells_from, Figure, Rules, Shape, Sheet};
 use std::process::ExitCode;
 
 const WIDTH: usize = 24;
@@ -22,11 +22,12 @@ const BOUNDARY: [Point; 7] = [[0, 7], [5, 8], [14, 7], [16, 6], [11, 4], [14, 1]
 fn old_kit(bytes: &mut Bytes, [x0, y0]: Point, [x1, y1]: Point) {
     let rules = Rules { line: cells_from, ..Rules::document() };
     let line = Figure::Line((x0.into(), y0.into()), (x1.into(), y1.into()));
-    rules.draw(&mut Sheet { width: WIDTH as i64, height: HEIGHT as i64, bytes }, 1, &line);
+    let shape = Shape { width: WIDTH as i64, height: HEIGHT as i64, pitch: WIDTH as i64 };
+    rules.draw(&mut Sheet { shape, bytes }, 1, &line);
 }
 
 fn library(bytes: &mut Bytes, [x0, y0]: Point, [x1, y1]: Point) {
-    let lent = Lent { bytes, width: WIDTH as u32, height: HEIGHT as u32 };
+    let lent = Lent { bytes, width: WIDTH as u32, height: HEIGHT as u32, pitch: WIDTH as u32 };
     assert_eq!(native::draw(lent, 1, Cells::Line([x0, y0, x1, y1]), &mut 0), 0, "the library refused a line");
 }
 

@@ -57,11 +57,11 @@ pub record Spans (k : Shape) (c : Course) (first past : ℕ) : Type 0 where
 
 -- the byte of a spot on the sheet
 abbrev pub byteOf : Shape → Spot → ℕ
-byteOf k p = (p .y - 65536) * k .width + (p .x - 65536)
+byteOf k p = (p .y - 65536) * k .pitch + (p .x - 65536)
 
 -- what a step along the longer extent alone adds to a byte's place, and a step along both, modulo 2^64
 abbrev pub aloneBy : Bool → Bool → ℕ → ℕ
-aloneBy right steep w = cond steep w (cond right 1 18446744073709551615)
+aloneBy right steep pitch = cond steep pitch (cond right 1 18446744073709551615)
 
 abbrev pub bothBy : Bool → ℕ → ℕ
-bothBy right w = cond right (w + 1) (w - 1)
+bothBy right pitch = cond right (pitch + 1) (pitch - 1)

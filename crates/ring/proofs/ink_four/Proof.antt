@@ -40,7 +40,7 @@ returns c =
     let called₁ = called₂ .before .before .before .before in
     let start = called₁ .before .before .before .before .before .before .before in
     let a = start .args in
-    painted-four (a .centre) (a .x) (a .y) (omega (arith, start .pre)) (omega (arith, start .pre)) (a .shape) (a .ink) _ _ _ _ _
+    painted-four (a .centre) (a .x) (a .y) (omega (arith, start .pre)) (omega (arith, start .pre)) (a .shape) (start .pre .1) (a .ink) _ _ _ _ _
     (called₁ .ink-at .ensures) (called₂ .ink-at2 .ensures) (called₃ .ink-at3 .ensures) (called .ink-at4 .ensures)
 
 pub ink-four-spec : {M : Type 1} → statement M

@@ -87,7 +87,7 @@ returns c =
     (now (a .sheet)) _ (c .before .before .before .loop .inv .3)
 
 ink-turned-requires : tie.Need-ink-turned-requires Inv-loop μ-loop
-ink-turned-requires c κs = (c .before .before .before .before .before .before .pre .0, omega arith, omega arith)
+ink-turned-requires c κs = let start = c .before .before .before .before .before .before in (start .pre .0, start .pre .1, omega arith, omega arith)
 
 add-x : tie.Need-add-x Inv-loop μ-loop
 add-x c = omega arith

@@ -7,15 +7,15 @@ use borrow.Author.Tests.{eq-eqb, ne-eqb}
 use Rattle.laws.proofs.Tests.{no, yes}
 use Rattle.sheet.specs.Sheet.{sized}
 use Rattle.sheet.specs.Drawing.{ifSheet}
-use Rattle.sheet.proofs.Limits.{sides-most}
+use Rattle.sheet.proofs.Limits.{bytes-most}
 use Rattle.sheet.proofs.check.Statement.{statement}
 use Rattle.sheet.proofs.check.Tie as tie
 
 -- what the test of the sizes showed
-tested : (c : tie.After-is-size2) → (c .before .is-size .result && c .is-size2 .result) ≡ sized (c .before .before .args .shape)
-tested c = ap₂ _&&_ (c .before .is-size .ensures) (c .is-size2 .ensures)
+tested : (c : tie.After-is-pitch) → (c .before .before .is-size .result && c .before .is-size2 .result && c .is-pitch .result) ≡ sized (c .before .before .before .args .shape)
+tested c = ap₂ _&&_ (ap₂ _&&_ (c .before .before .is-size .ensures) (c .before .is-size2 .ensures)) (c .is-pitch .ensures)
 
-fair : (c : tie.Else1) → sized (c .before .before .before .args .shape) ≡ true
+fair : (c : tie.Else1) → sized (c .before .before .before .before .args .shape) ≡ true
 fair c = yes _ _ (tested (c .before)) (c .if1 .left)
 
 is-size-requires : tie.Need-is-size-requires
@@ -23,6 +23,9 @@ is-size-requires c κs = search needs
 
 is-size-requires-2 : tie.Need-is-size-requires-2
 is-size-requires-2 c κs = search needs
+
+is-pitch-requires : tie.Need-is-pitch-requires
+is-pitch-requires c κs = search needs
 
 returns : tie.Need-returns
 unfolding ifSheet
@@ -35,7 +38,7 @@ cast-if2-2 : tie.Need-cast-if2-2
 cast-if2-2 c = search needs
 
 mul-if2 : tie.Need-mul-if2
-mul-if2 c = omega (arith, sides-most (c .before .before .before .args .shape) (fair c))
+mul-if2 c = omega (arith, bytes-most (c .before .before .before .before .args .shape) (fair c))
 
 returns-2 : tie.Need-returns-2
 unfolding ifSheet
@@ -48,4 +51,4 @@ returns-3 c = simp (fair (c .before), eq-eqb _ _ (c .if2 .left))
 pub check-spec : {M : Type 1} → statement M
 check-spec =
     tie.close
-    (tie.spec is-size-requires is-size-requires-2 returns cast-if2 cast-if2-2 mul-if2 returns-2 returns-3)
+    (tie.spec is-size-requires is-size-requires-2 is-pitch-requires returns cast-if2 cast-if2-2 mul-if2 returns-2 returns-3)

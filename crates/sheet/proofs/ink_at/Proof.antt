@@ -38,7 +38,7 @@ cast-at-2 c = search needs
 mul-at : tie.Need-mul-at
 mul-at c =
     let a = c .before .before .before .before .args in
-    omega (arith, place-small (a .spot .y - 65536) (a .shape .width) (a .spot .x - 65536) (omega arith) (omega arith) (omega arith))
+    omega (arith, place-small (a .spot .y - 65536) (a .shape .pitch) (a .spot .x - 65536) (omega arith) (omega arith) (omega arith))
 
 cast-at-3 : tie.Need-cast-at-3
 cast-at-3 c = search needs
@@ -46,7 +46,7 @@ cast-at-3 c = search needs
 add-at : tie.Need-add-at
 add-at c =
     let a = c .before .before .before .before .args in
-    omega (arith, place-small (a .spot .y - 65536) (a .shape .width) (a .spot .x - 65536) (omega arith) (omega arith) (omega arith))
+    omega (arith, place-small (a .spot .y - 65536) (a .shape .pitch) (a .spot .x - 65536) (omega arith) (omega arith) (omega arith))
 
 returns-5 : tie.Need-returns-5
 returns-5 c =

@@ -12,11 +12,11 @@ use Rattle.line.proofs.draw.byte_at.Tie as tie
 is-on : (c : tie.After-spot-of) → On (c .before .args .shape) (c .spot-of .result)
 is-on c = subst (On (c .before .args .shape)) (sym (c .spot-of .ensures)) (c .before .pre .1 .2)
 
-row-fits : (c : tie.After-spot-of) → (c .spot-of .result .y - 65536) * c .before .args .shape .width ≤ 16777216
+row-fits : (c : tie.After-spot-of) → (c .spot-of .result .y - 65536) * c .before .args .shape .pitch ≤ 33554432
 row-fits c =
     let k = c .before .args .shape in
     let p = c .before .pre .0 in
-    row-small (k .width) (k .height) (c .spot-of .result .y - 65536) (p .0) (p .1) (omega (arith, is-on c .top, is-on c .bottom))
+    row-small (k .pitch) (k .height) (c .spot-of .result .y - 65536) (p .0) (p .2) (omega (arith, is-on c .top, is-on c .bottom))
 
 spot-of-requires : tie.Need-spot-of-requires
 spot-of-requires c κs = search needs
@@ -40,7 +40,7 @@ cast-result-3 : tie.Need-cast-result-3
 cast-result-3 c = search needs
 
 add-result : tie.Need-add-result
-add-result c = let found = c .before .before in omega (arith, row-fits found, is-on found .right, found .before .pre .0 .0)
+add-result c = let found = c .before .before in omega (arith, row-fits found, is-on found .right, found .before .pre .0 .1)
 
 returns : tie.Need-returns
 returns c = let found = c .before .before in ap (byteOf (found .before .args .shape)) (found .spot-of .ensures)

@@ -2,8 +2,7 @@
 use mathlib.Core.Path.{sym, ap, _∙_}
 use native.Mathlib.Omega.{arith}
 use denote.Ref.{now}
-use Rattle.sheet.specs.Sheet.{isCell, paint}
-use Rattle.sheet.specs.Inner.{unmovedCell}
+use Rattle.sheet.specs.Inner.{unmovedCell, inkedAt}
 use Rattle.line.proofs.Rise.{rise-start, rise-end}
 use Rattle.line.proofs.Whole.{ends-inked}
 use borrow.Author.Needs.{needs}
@@ -13,13 +12,13 @@ use Rattle.line.proofs.draw.ends.Tie as tie
 spot-of-requires : tie.Need-spot-of-requires
 spot-of-requires c κs =
     let a = c .before .args .course in
-    (c .before .pre .0, omega arith, sym (rise-start (a .long) (a .short)))
+    (c .before .pre .1, omega arith, sym (rise-start (a .long) (a .short)))
 
 spot-of-requires-2 : tie.Need-spot-of-requires-2
 spot-of-requires-2 c κs =
     let start = c .before .before in
     let a = start .args .course in
-    let r = start .pre .0 in
+    let r = start .pre .1 in
     (r, omega arith, sym (rise-end (a .long) (a .short) (r .shorter)))
 
 ink-at-requires : tie.Need-ink-at-requires
@@ -39,8 +38,8 @@ returns c =
     let start = last .before .before .before in
     let a = start .args in
     called .ink-at2 .ensures
-    ∙ ap (paint (a .shape) (a .ink) (isCell (unmovedCell (last .spot-of2 .result)))) (inked .ink-at .ensures)
-    ∙ ends-inked (a .shape) (a .ink) (a .course) (start .pre .1) _ _ (last .before .spot-of .ensures) (last .spot-of2 .ensures) (now (a .sheet))
+    ∙ ap (inkedAt (a .shape) (a .ink) (unmovedCell (last .spot-of2 .result))) (inked .ink-at .ensures)
+    ∙ ends-inked (a .shape) (a .ink) (a .course) (start .pre .0) (start .pre .2) _ _ (last .before .spot-of .ensures) (last .spot-of2 .ensures) (now (a .sheet))
 
 pub ends-spec : {M : Type 1} → statement M
 ends-spec =

@@ -37,7 +37,7 @@ returns c =
     let start = tested .before .before .before in
     let a = start .args in
     let e : a .course .long + 1 ≡ a .course .long + 1 - 0 = omega arith in
-    (e ∙ counted (a .shape) (a .course) (start .pre .1) 0 (a .course .long + 1) (tested .before .is-whole .ensures (tested .if1 .taken)) (omega arith), called .whole-line .ensures)
+    (e ∙ counted (a .shape) (start .pre .0 .disjoint) (a .course) (start .pre .1) 0 (a .course .long + 1) (tested .before .is-whole .ensures (tested .if1 .taken)) (omega arith), called .whole-line .ensures)
 
 first-n-requires : tie.Need-first-n-requires
 first-n-requires c κs = search needs
@@ -50,7 +50,7 @@ returns-2 c =
     let found = c .before in
     let start = found .before .before .before .before .before in
     let a = start .args in
-    nothing (a .shape) (a .course) (start .pre .1) _ _ (range found) (c .if2 .taken) (a .ink) (now (a .sheet))
+    nothing (a .shape) (start .pre .0 .disjoint) (a .course) (start .pre .1) _ _ (range found) (c .if2 .taken) (a .ink) (now (a .sheet))
 
 walk-requires : tie.Need-walk-requires
 walk-requires c κs =
@@ -69,7 +69,7 @@ returns-3 c =
     let found = tested .before in
     let start = found .before .before .before .before .before in
     let a = start .args in
-    (counted (a .shape) (a .course) (start .pre .1) _ _ (range found) (tested .if2 .left), c .before .before .walk .ensures)
+    (counted (a .shape) (start .pre .0 .disjoint) (a .course) (start .pre .1) _ _ (range found) (tested .if2 .left), c .before .before .walk .ensures)
 
 pub run-spec : {M : Type 1} → statement M
 run-spec =

@@ -35,7 +35,7 @@ byte-at-requires c κs =
     let range = start .pre .1 .1 in
     let u : a .first ≤ a .course .long = omega (arith, range .low) in
     let t = tally-is (a .course .long) (a .course .short) (a .first) _ _ (c .before .before .before .gradient-of .ensures) (c .before .before .tally-at .ensures .0) in
-    ((k .wide, k .high, r), (u, c .whole .ensures ∙ ap (λ (z : ℕ). z / 4294967296) t ∙ tally-rise (a .course .long) (a .course .short) (a .first) (r .shorter) (r .limit) u, range .on (a .first) (omega arith) (omega arith)))
+    ((k .far, k .wide, k .high, r), (u, c .whole .ensures ∙ ap (λ (z : ℕ). z / 4294967296) t ∙ tally-rise (a .course .long) (a .course .short) (a .first) (r .shorter) (r .limit) u, range .on (a .first) (omega arith) (omega arith)))
 
 loop-holds : tie.Need-loop-holds Inv-loop μ-loop
 loop-holds c =
@@ -54,7 +54,7 @@ slice-write-sheet c =
     let a = start .args in
     let p = start .pre in
     at-below (a .shape) (a .ink) (a .course) (a .first) (a .past) (p .0 .1) (p .1 .1) (p .1 .0)
-    (now (a .sheet)) (k .sheet) (k .p) (k .at) (k .n) (k .inv) (c .loop-test .taken)
+    (now (a .sheet)) (k .sheet) (k .p) (k .at) (k .n) (k .inv) (c .loop-test .taken) (p .0 .0 .disjoint)
 
 add-n : tie.Need-add-n Inv-loop μ-loop
 add-n c = omega arith
@@ -63,7 +63,9 @@ wrapping-add-u32-requires : tie.Need-wrapping-add-u32-requires Inv-loop μ-loop
 wrapping-add-u32-requires c κs = tt
 
 hop-requires : tie.Need-hop-requires Inv-loop μ-loop
-hop-requires c κs = let start = c .before .before .before .before .before .before .before .before .before in start .pre .0 .0 .broad
+hop-requires c κs =
+    let k = c .before .before .before .before .before .before .before .before .before .pre .0 .0 in
+    omega (arith, k .broad, k .disjoint)
 
 loop-less : tie.Need-loop-less Inv-loop μ-loop
 loop-less c = omega arith
@@ -78,7 +80,7 @@ loop-again c =
     let p = start .pre in
     turn (a .shape) (a .ink) (a .course) (a .first) (a .past) (p .0 .1) (p .1 .1) (p .1 .0)
     (now (a .sheet)) (k .sheet) (k .p) (k .at) (k .n) (k .inv) (c .before .before .loop-test .taken)
-    (p .0 .0 .wide) (p .0 .0 .high)
+    (p .0 .0 .disjoint) (p .0 .0 .far) (p .0 .0 .high)
     (sloped .gradient-of .result) _ (c .before .wrapping-add-u32 .result) (c .hop .result)
     (sloped .gradient-of .ensures) (c .before .wrapping-add-u32 .ensures) refl (c .hop .ensures)
 

@@ -28,7 +28,7 @@ returns c =
     let p1 = cell-back (a .x1) (a .y1) (f .x1) (f .y1) in
     let p2 = cell-back (a .x2) (a .y2) (f .x2) (f .y2) in
     draws-number _ _ _ _ _
-    (draws-as _ _ _ _ _ (λ i. curveDrawing (shapeOf (a .width) (a .height)) (a .ink) (p0 i ∷ p1 i ∷ p2 i ∷ []) (a .s)) (called .draw-curve .ensures))
+    (draws-as _ _ _ _ _ (λ i. curveDrawing (shapeOf (a .width) (a .height) (a .pitch)) (a .ink) (p0 i ∷ p1 i ∷ p2 i ∷ []) (a .s)) (called .draw-curve .ensures))
     (curve-tells _ _ _ _) (c .number .ensures)
 
 pub pw-curve-spec : {M : Type 1} → statement M

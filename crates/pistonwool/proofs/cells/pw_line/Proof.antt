@@ -26,7 +26,7 @@ returns c =
     let from = cell-back (a .x0) (a .y0) (f .x0) (f .y0) in
     let to = cell-back (a .x1) (a .y1) (f .x1) (f .y1) in
     draws-count _ _ _ _ _ _ _
-    (draws-as _ _ _ _ _ (λ i. lineDrawing (shapeOf (a .width) (a .height)) (a .ink) (from i) (to i)) (called .draw-line .ensures))
+    (draws-as _ _ _ _ _ (λ i. lineDrawing (shapeOf (a .width) (a .height) (a .pitch)) (a .ink) (from i) (to i)) (called .draw-line .ensures))
     (line-tells _ _ _ _) (c .tell-cells .ensures)
 
 pub pw-line-spec : {M : Type 1} → statement M

@@ -20,7 +20,7 @@ returns c =
     let called = c .before .before .before in
     let a = called .before .before .before .args in
     draws-number _ _ _ _ _ (called .draw-metres .ensures)
-    (circle-metres-tells (shapeOf (a .width) (a .height)) (a .ink) _ (surveyOf (a .east) (a .north) (a .size)) (a .x) (a .y) (a .r)) (c .number .ensures)
+    (circle-metres-tells (shapeOf (a .width) (a .height) (a .pitch)) (a .ink) _ (surveyOf (a .east) (a .north) (a .size)) (a .x) (a .y) (a .r)) (c .number .ensures)
 
 pub pw-circle-metres-spec : {M : Type 1} → statement M
 pw-circle-metres-spec =

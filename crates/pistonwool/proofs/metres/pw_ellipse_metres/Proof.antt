@@ -20,7 +20,7 @@ returns c =
     let called = c .before .before .before in
     let a = called .before .before .before .args in
     draws-number _ _ _ _ _ (called .draw-metres .ensures)
-    (ellipse-metres-tells (shapeOf (a .width) (a .height)) (a .ink) _ (surveyOf (a .east) (a .north) (a .size)) (a .x) (a .y) (a .a) (a .b)) (c .number .ensures)
+    (ellipse-metres-tells (shapeOf (a .width) (a .height) (a .pitch)) (a .ink) _ (surveyOf (a .east) (a .north) (a .size)) (a .x) (a .y) (a .a) (a .b)) (c .number .ensures)
 
 pub pw-ellipse-metres-spec : {M : Type 1} → statement M
 pw-ellipse-metres-spec =

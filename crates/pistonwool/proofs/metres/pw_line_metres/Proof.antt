@@ -14,7 +14,7 @@ tell-cells-requires c κs =
     let called = c .before .before .before in
     let a = called .before .before .before .args in
     draws-small _ _ _ _ (called .draw-metres .ensures)
-    (line-metres-tells (shapeOf (a .width) (a .height)) (a .ink) _ (surveyOf (a .east) (a .north) (a .size)) (a .x0) (a .y0) (a .x1) (a .y1))
+    (line-metres-tells (shapeOf (a .width) (a .height) (a .pitch)) (a .ink) _ (surveyOf (a .east) (a .north) (a .size)) (a .x0) (a .y0) (a .x1) (a .y1))
 
 same-length : tie.Need-same-length
 same-length c = search needs
@@ -24,7 +24,7 @@ returns c =
     let called = c .before .before .before .before in
     let a = called .before .before .before .args in
     draws-count _ _ _ _ _ _ _ (called .draw-metres .ensures)
-    (line-metres-tells (shapeOf (a .width) (a .height)) (a .ink) _ (surveyOf (a .east) (a .north) (a .size)) (a .x0) (a .y0) (a .x1) (a .y1))
+    (line-metres-tells (shapeOf (a .width) (a .height) (a .pitch)) (a .ink) _ (surveyOf (a .east) (a .north) (a .size)) (a .x0) (a .y0) (a .x1) (a .y1))
     (c .tell-cells .ensures)
 
 pub pw-line-metres-spec : {M : Type 1} → statement M
