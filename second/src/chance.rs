@@ -5,8 +5,6 @@ use crate::metres::{Metres, Survey};
 use crate::native::{Cells, Pen};
 use crate::random::Random;
 
-const PRINTED: Size = Size { len: 128, width: 16, height: 8 };
-
 impl Case {
     pub fn figure(seed: u64) -> Case {
         let mut random = Random(seed);
@@ -34,20 +32,22 @@ impl Case {
         Case { fill: random.number(), job: Job::File(size, bytes) }
     }
 
-    /// A file of sound records and a bad one, on the sheet of the printing program.
+    /// A file of sound records and a bad one, on a sheet of the printing program's size.
     pub fn damaged(seed: u64) -> Case {
         let mut random = Random(seed);
+        let pitch = pitch(&mut random, 16);
+        let size = Size { len: 8 * pitch as usize, width: 16, height: 8, pitch: pitch as u32 };
         let mut bytes = Vec::new();
         for _ in 0..random.within(0, 4) {
-            record(&mut random, PRINTED, true, &mut bytes);
+            record(&mut random, size, true, &mut bytes);
         }
         bad_record(&mut random, &mut bytes);
         match random.number() % 4 {
             0 => damage(&mut random, &mut bytes),
-            1 => record(&mut random, PRINTED, true, &mut bytes),
+            1 => record(&mut random, size, true, &mut bytes),
             _ => {}
         }
-        Case { fill: random.number(), job: Job::File(PRINTED, bytes) }
+        Case { fill: random.number(), job: Job::File(size, bytes) }
     }
 
     pub fn pen(seed: u64) -> Case {
@@ -68,7 +68,8 @@ fn size(random: &mut Random) -> Size {
         100..200 => height = random.one_of(&[4096, 4095, 1000, 300]),
         _ => {}
     }
-    let mut len = (width * height) as usize;
+    let mut pitch = pitch(random, width);
+    let mut len = (pitch * height) as usize;
     if random.once_in(40) {
         let strange = random.one_of(&[0, 4097, 5000, 65_536, i64::from(i32::MAX), i64::from(u32::MAX)]);
         match random.number() % 3 {
@@ -76,17 +77,39 @@ fn size(random: &mut Random) -> Size {
             1 => height = strange,
             _ => (width, height) = (strange, strange),
         }
-        // the length that a product of 32 bits would have, where it can be lent
-        let product = (width as u32).wrapping_mul(height as u32) as usize;
-        if product <= 1 << 20 {
-            len = product;
-        }
+        pitch = pitch.max(width);
+        len = wrapping(pitch, height).unwrap_or(len);
+    }
+    if random.once_in(40) {
+        // at and beyond its limits, and so large that a product of 32 bits is that of a smaller one
+        let around = (1 << 32) / height.max(1);
+        let large = [around, around + 1, around + width, i64::from(i32::MAX), i64::from(u32::MAX)];
+        let edge = [width - 1, width - 1, width, 8191, 8192, 8193, 8193, 0, 1];
+        pitch = if random.once_in(2) { random.one_of(&large) } else { random.one_of(&edge) };
+        pitch = pitch.clamp(0, i64::from(u32::MAX));
+        len = wrapping(pitch, height).unwrap_or(len);
     }
     if random.once_in(40) {
         let other = random.within(0, 5000) as usize;
         len = random.one_of(&[0, 1, len.saturating_sub(1), len + 1, len + width.min(4096) as usize, len / 2, other]);
     }
-    Size { len: len.min(MOST_BYTES), width: width as u32, height: height as u32 }
+    Size { len: len.min(MOST_BYTES), width: width as u32, height: height as u32, pitch: pitch as u32 }
+}
+
+/// A pitch for rows of this width, mostly with padding after them.
+fn pitch(random: &mut Random, width: i64) -> i64 {
+    match random.number() % 64 {
+        0..16 => width,
+        16 => random.within(width, 8192.min(width + 400)),
+        17 => (width + 7) / 8 * 8,
+        _ => width + random.within(1, 9),
+    }
+}
+
+/// The length that a product of 32 bits would have, where it can be lent.
+fn wrapping(pitch: i64, height: i64) -> Option<usize> {
+    let product = (pitch as u32).wrapping_mul(height as u32) as usize;
+    (product <= 1 << 20).then_some(product)
 }
 
 /// A coordinate on or near a side of this length, or far from it, or beyond the limits.
@@ -187,7 +210,7 @@ fn pieces(random: &mut Random) -> u32 {
 }
 
 fn ends(random: &mut Random) -> [i32; 4] {
-    let size = Size { len: 0, width: 64, height: 64 };
+    let size = Size { len: 0, width: 64, height: 64, pitch: 64 };
     let Cells::Line(ends) = line(random, size) else { unreachable!() };
     ends
 }

@@ -1,6 +1,6 @@
 //! Second programs that are wrong on purpose: a comparison that is worth anything catches each.
 use crate::rule::{
-    asked, bad_fields, cells_from, line_cells, no_sheet, place, refusal, Bad, Cell, Figure, Rules, Sheet, Told,
+    asked, bad_fields, cells_from, line_cells, no_sheet, place, refusal, Bad, Cell, Figure, Rules, Shape, Sheet, Told,
 };
 
 /// Each with what is wrong in it.
@@ -13,6 +13,8 @@ pub fn wrong_programs() -> Vec<(&'static str, Rules)> {
         ("a pen marks time after its first cell", Rules { asked: marks_time, ..right }),
         ("a finished pen answers its last cell again", Rules { asked: once_more, ..right }),
         ("an off-sheet x is wrapped into the next row", Rules { place: wrapped, ..right }),
+        ("a row begins a width after the one before", Rules { place: unpadded, ..right }),
+        ("a line goes on into the padding", Rules { place: in_padding, ..right }),
         ("a circle's outer edge has < for <=", Rules { on_circle: circle_outside_edge, ..right }),
         ("a circle's inner edge has <= for <", Rules { on_circle: circle_inside_edge, ..right }),
         ("an ellipse has no row rule", Rules { on_ellipse: ellipse_by_columns, ..right }),
@@ -26,6 +28,10 @@ pub fn wrong_programs() -> Vec<(&'static str, Rules)> {
         ("s = 7 is drawn", Rules { refusal: seventh, ..right }),
         ("a file is drawn as it is read", Rules { reads_first: false, ..right }),
         ("a slice of another length is refused as a bad size", Rules { no_sheet: one_number, ..right }),
+        ("a pitch one less than the width is refused as a bad slice", Rules { no_sheet: narrow, ..right }),
+        ("a pitch of 8,193 is taken", Rules { no_sheet: one_byte_wider, ..right }),
+        ("a pitch whose product of 32 bits is the slice's length is no bad size", Rules { no_sheet: wraps, ..right }),
+        ("a slice is to have width x height bytes", Rules { no_sheet: by_width, ..right }),
         ("a length under 2 is refused as that of another kind", Rules { kindless: 10, ..right }),
         ("a refused file tells offset 0", Rules { offset: |_, _| 0, ..right }),
         ("a refused file tells the record's offset", Rules { offset: |record, _| record, ..right }),
@@ -39,9 +45,9 @@ fn without_last(from: Cell, to: Cell) -> Vec<Cell> {
     cells
 }
 
-fn cut(_: &Rules, width: i64, height: i64, from: Cell, to: Cell) -> Vec<Cell> {
+fn cut(_: &Rules, shape: Shape, from: Cell, to: Cell) -> Vec<Cell> {
     let mut cells = line_cells(from, to);
-    cells.retain(|&cell| place(width, height, cell).is_some());
+    cells.retain(|&cell| place(shape, cell).is_some());
     match cells[..] {
         [first, .., last] => line_cells(first, last),
         _ => cells,
@@ -59,9 +65,17 @@ fn once_more(rules: &Rules, from: Cell, to: Cell, told: u64) -> Vec<Told> {
     cells
 }
 
-fn wrapped(width: i64, height: i64, (x, y): Cell) -> Option<usize> {
-    let place = y * width + x;
-    (0..width * height).contains(&place).then_some(place as usize)
+fn wrapped(Shape { height, pitch, .. }: Shape, (x, y): Cell) -> Option<usize> {
+    let place = y * pitch + x;
+    (0..pitch * height).contains(&place).then_some(place as usize)
+}
+
+fn unpadded(shape: Shape, cell: Cell) -> Option<usize> {
+    place(Shape { pitch: shape.width, ..shape }, cell)
+}
+
+fn in_padding(shape: Shape, cell: Cell) -> Option<usize> {
+    place(Shape { width: shape.pitch, ..shape }, cell)
 }
 
 fn circle_outside_edge(r: i64, (x, y): Cell) -> bool {
@@ -126,6 +140,34 @@ fn seventh(figure: &Figure) -> Option<Bad> {
 
 fn one_number(sheet: &Sheet) -> Option<u32> {
     no_sheet(sheet).map(|_| 1)
+}
+
+fn narrow(sheet: &Sheet) -> Option<u32> {
+    let Shape { width, pitch, .. } = sheet.shape;
+    no_sheet(sheet).map(|number| if pitch == width - 1 { 15 } else { number })
+}
+
+/// Whether nothing is wrong with width and height.
+fn sides(Shape { width, height, .. }: Shape) -> bool {
+    [width, height].iter().all(|side| (1..=4096).contains(side))
+}
+
+fn one_byte_wider(sheet: &Sheet) -> Option<u32> {
+    let Shape { height, pitch, .. } = sheet.shape;
+    let taken = sides(sheet.shape) && pitch == 8193 && sheet.bytes.len() as i64 == pitch * height;
+    no_sheet(sheet).filter(|_| !taken)
+}
+
+fn wraps(sheet: &Sheet) -> Option<u32> {
+    let Shape { height, pitch, .. } = sheet.shape;
+    let taken =
+        sides(sheet.shape) && pitch * height >= 1 << 32 && pitch * height % (1 << 32) == sheet.bytes.len() as i64;
+    no_sheet(sheet).map(|number| if taken { 15 } else { number })
+}
+
+fn by_width(sheet: &Sheet) -> Option<u32> {
+    let Shape { width, height, .. } = sheet.shape;
+    no_sheet(sheet).or((sheet.bytes.len() as i64 != width * height).then_some(15))
 }
 
 fn last_bad(figure: &Figure) -> Option<Bad> {

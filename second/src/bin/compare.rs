@@ -3,7 +3,7 @@
 //!     compare [COUNT] [SEED]    COUNT figures, COUNT files, COUNT damaged files and COUNT pens
 //!     compare --one CASE        one case, as a difference prints it
 //!     compare --teeth           wrong second programs, each of which must be caught
-use second::case::Case;
+use second::case::{Case, Job};
 use second::guard::{Against, Guarded};
 use second::rule::Rules;
 use second::run::Room;
@@ -53,30 +53,40 @@ fn case(make: Make, seed: u64, i: u64) -> Case {
     make(Random(seed ^ i.wrapping_mul(0xd134_2543_de82_ef95)).number())
 }
 
-/// How often each export gave each reply, and how often it changed a sheet, list or pen.
+/// How often an export gave each reply, how often it changed a sheet, list or pen, and how often a sheet with padding.
 #[derive(Default)]
-struct Tally(BTreeMap<&'static str, ([u64; 17], u64)>);
+struct Seen {
+    replies: [u64; 17],
+    changes: u64,
+    padded: u64,
+}
+
+#[derive(Default)]
+struct Tally(BTreeMap<&'static str, Seen>);
 
 impl Tally {
-    fn add(&mut self, export: &'static str, (number, changed): (u32, bool)) {
-        let (replies, changes) = self.0.entry(export).or_default();
-        replies[number as usize] += 1;
-        *changes += u64::from(changed);
+    fn add(&mut self, job: &Job, (number, changed): (u32, bool)) {
+        let seen = self.0.entry(job.name()).or_default();
+        seen.replies[number as usize] += 1;
+        seen.changes += u64::from(changed);
+        seen.padded += u64::from(changed && job.size().is_some_and(|size| size.width < size.pitch));
     }
 
     fn join(&mut self, other: &Tally) {
-        for (export, (replies, changes)) in &other.0 {
+        for (export, seen) in &other.0 {
             let mine = self.0.entry(export).or_default();
-            mine.0.iter_mut().zip(replies).for_each(|(sum, more)| *sum += more);
-            mine.1 += changes;
+            mine.replies.iter_mut().zip(seen.replies).for_each(|(sum, more)| *sum += more);
+            mine.changes += seen.changes;
+            mine.padded += seen.padded;
         }
     }
 
     fn print(&self) {
-        for (export, (replies, changes)) in &self.0 {
+        for (export, Seen { replies, changes, padded }) in &self.0 {
             let told = replies.iter().enumerate().filter(|&(_, &times)| times > 0);
             let told: Vec<String> = told.map(|(number, times)| format!("{number}: {times}")).collect();
-            println!("  {export:14} changed something {changes} times; replies {}", told.join(", "));
+            let padded = if *padded > 0 { format!(", {padded} with padding") } else { String::new() };
+            println!("  {export:14} changed something {changes} times{padded}; replies {}", told.join(", "));
         }
     }
 }
@@ -96,7 +106,7 @@ fn run(name: &str, make: Make, count: u64, seed: u64) -> bool {
             }
             let case = case(make, seed, i);
             match compare(&mut room, &Rules::document(), &case) {
-                Ok(outcome) => own.add(case.job.name(), outcome),
+                Ok(outcome) => own.add(&case.job, outcome),
                 Err(what) => {
                     differences.fetch_add(1, Relaxed);
                     println!("difference: {what}\n  compare --one \"{case}\"");
