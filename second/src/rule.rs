@@ -149,11 +149,13 @@ impl Rules {
 
     /// Asks every cell of the sheet that is in the ring's box.
     fn ink_ring(&self, sheet: &mut Sheet, ink: u8, centre: Cell, reach: Cell, has: impl Fn(Cell) -> bool) {
-        let Shape { width, height, pitch } = sheet.shape;
-        for y in (centre.1 - reach.1).max(0)..=(centre.1 + reach.1).min(height - 1) {
-            for x in (centre.0 - reach.0).max(0)..=(centre.0 + reach.0).min(width - 1) {
+        let shape = sheet.shape;
+        for y in (centre.1 - reach.1).max(0)..=(centre.1 + reach.1).min(shape.height - 1) {
+            for x in (centre.0 - reach.0).max(0)..=(centre.0 + reach.0).min(shape.width - 1) {
                 if has((x - centre.0, y - centre.1)) {
-                    sheet.bytes[(y * pitch + x) as usize] = ink;
+                    if let Some(place) = (self.place)(shape, (x, y)) {
+                        sheet.bytes[place] = ink;
+                    }
                 }
             }
         }
