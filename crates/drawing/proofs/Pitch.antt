@@ -4,9 +4,9 @@ use mathlib.Core.Path.{refl, ap}
 use mathlib.Core.List.{List, [], _∷_}
 use mathlib.Core.Bool.{_&&_}
 use lib.IntN.{pos}
-use Rattle.sheet.specs.Sheet.{inLimits, radius, semiAxis}
+use Rattle.sheet.specs.Sheet.{inLimits}
 use Rattle.sheet.specs.Reply.{done, refuse, unless}
-use Rattle.sheet.specs.Drawing.{only, ifSheet}
+use Rattle.sheet.specs.Drawing.{only}
 use Rattle.sheet.specs.Pitch.{withPitch, AnyPitch}
 use Rattle.sheet.specs.declared.Shape.{Shape}
 use Rattle.sheet.specs.declared.Figure.{Figure}
@@ -14,12 +14,10 @@ use Rattle.sheet.specs.declared.Figure.the-variants.{Line, Circle, Ellipse, Cur
 use Rattle.sheet.specs.declared.Refusal.the-variants.{Coordinate}
 use Rattle.sheet.proofs.Count.{cells-pitch}
 use Rattle.sheet.proofs.Limits.{fits-disjoint}
-use Rattle.sheet.proofs.Pitch.{any-pitch, on-sheets}
+use Rattle.sheet.proofs.Pitch.{any-pitch, on-sheets, any-sheet}
 use Rattle.line.specs.Rule.{onLine}
 use Rattle.line.specs.Draw.{lineAnswer}
-use Rattle.ring.specs.Ring.{onCircle, onEllipse}
 use Rattle.ring.specs.Draw.{ringAnswer}
-use Rattle.curve.specs.Rule.{onCurve}
 use Rattle.curve.specs.Draw.{curveAnswer}
 use Rattle.record.specs.File.{fileAnswer}
 use Rattle.survey.specs.Metres.{inCells}
@@ -39,20 +37,14 @@ figure-any-pitch ink (Line a b) =
     on-sheets k (withPitch k pitch) n m _ _ e f
     (ap (λ (c : ℕ). unless (inLimits a && inLimits b) Coordinate (done (pos c ∷ [])))
     (cells-pitch (onLine a b) k pitch (fits-disjoint k n e) (fits-disjoint (withPitch k pitch) m f))))
-figure-any-pitch ink (Circle c r) =
-    any-pitch (λ k. ringAnswer k c (radius r)) (only ink (onCircle c r)) (λ k pitch n m e f. on-sheets k (withPitch k pitch) n m _ _ e f refl)
-figure-any-pitch ink (Ellipse c a b) =
-    any-pitch (λ k. ringAnswer k c (semiAxis a && semiAxis b)) (only ink (onEllipse c a b)) (λ k pitch n m e f.
-    on-sheets k (withPitch k pitch) n m _ _ e f refl)
-figure-any-pitch ink (Curve p0 p1 p2 s) =
-    any-pitch (λ k. curveAnswer k (p0 ∷ p1 ∷ p2 ∷ []) s) (only ink (onCurve (p0 ∷ p1 ∷ p2 ∷ []) s)) (λ k pitch n m e f.
-    on-sheets k (withPitch k pitch) n m _ _ e f refl)
+figure-any-pitch ink (Circle c r) = any-sheet _ _
+figure-any-pitch ink (Ellipse c a b) = any-sheet _ _
+figure-any-pitch ink (Curve p0 p1 p2 s) = any-sheet _ _
 
 -- a figure in metres
 cells-any-pitch : (ink : ℕ) (i : InCells) → AnyPitch (λ (k : Shape). cellsDrawing k ink i)
 cells-any-pitch ink (Is f) = figure-any-pitch ink f
-cells-any-pitch ink (Refused r) =
-    any-pitch (λ k n. ifSheet k n (refuse r)) [] (λ k pitch n m e f. on-sheets k (withPitch k pitch) n m (refuse r) (refuse r) e f refl)
+cells-any-pitch ink (Refused r) = any-sheet (refuse r) []
 
 pub metres-any-pitch : (ink : ℕ) (s : Survey) (f : Metres) → AnyPitch (λ (k : Shape). metresDrawing k ink s f)
 metres-any-pitch ink s f = cells-any-pitch ink (inCells s f)

@@ -9,10 +9,10 @@ use native.Mathlib.Nat.{div-add-mod'}
 use lib.Arith.{digits-mod}
 use lib.ListN.{length, getD}
 use Rattle.laws.proofs.Products.{lt-or-ge, mul-lt-back}
-use Rattle.sheet.specs.Sheet.{bytes, onSheet, place, cellOf, cellAt, paint, isCell}
+use Rattle.sheet.specs.Sheet.{bytes, onSheet, place, cellOf, cellAt, paint}
 use Rattle.sheet.specs.Pitch.{Padding, withPitch, Alike, AnyPitch}
 use Rattle.sheet.specs.Reply.{Answer, isDone, settled}
-use Rattle.sheet.specs.Drawing.{Inked, only, paintAll, ifSheet, Drawing, Draws, markAnswer, markDrawing}
+use Rattle.sheet.specs.Drawing.{Inked, paintAll, ifSheet, Drawing, Draws, markAnswer, markDrawing}
 use Rattle.sheet.specs.Inner.{Disjoint, fits, Sheet}
 use Rattle.sheet.specs.declared.Cell.{Cell}
 use Rattle.sheet.specs.declared.Shape.{Shape}
@@ -117,6 +117,10 @@ carried draw any k pitch s t b v h g =
 pub on-sheets : (k l : Shape) (n m : ℕ) (a b : Answer) → fits k n ≡ true → fits l m ≡ true → a ≡ b → ifSheet k n a ≡ ifSheet l m b
 on-sheets k l n m a b e f q = if-sheet k n e a ∙ q ∙ sym (if-sheet l m f b)
 
+-- The pitch does not matter where what follows that test does not look at the sheet.
+pub any-sheet : (next : Answer) (figures : List Inked) → AnyPitch (λ (k : Shape). record { shape = k; answer = λ (n : ℕ). ifSheet k n next; figures = figures })
+any-sheet next figures = any-pitch (λ k n. ifSheet k n next) figures (λ k pitch n m e f. on-sheets k (withPitch k pitch) n m next next e f refl)
+
 pub mark-any-pitch : (ink : ℕ) (c : Cell) → AnyPitch (λ (k : Shape). markDrawing k ink c)
 unfolding markAnswer
-mark-any-pitch ink c = any-pitch (λ k. markAnswer k c) (only ink (isCell c)) (λ k pitch n m e f. on-sheets k (withPitch k pitch) n m _ _ e f refl)
+mark-any-pitch ink c = any-sheet _ _

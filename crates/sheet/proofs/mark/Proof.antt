@@ -12,7 +12,7 @@ use Rattle.sheet.specs.declared.Cell.{Cell}
 use Rattle.sheet.specs.declared.Refusal.the-variants.{Coordinate}
 use Rattle.sheet.proofs.Draws.{refuses, draws}
 use Rattle.sheet.proofs.Lent.{if-sheet, is-sheet, sheet-refused}
-use Rattle.sheet.proofs.Limits.{fits-sheet, lifted-cell}
+use Rattle.sheet.proofs.Limits.{fits-disjoint, lifted-cell}
 use Rattle.sheet.proofs.Marks.{inked-paints}
 use borrow.Author.Needs.{needs}
 use Rattle.sheet.proofs.mark.Statement.{statement}
@@ -61,7 +61,7 @@ returns-3 c =
     let at = lifted-cell (a .cell) _ inside (called .before .lift-cell .ensures) .stands in
     draws _ _ [] _ (simp (if-sheet _ _ (fitted sized), inside))
     (called .ink-at .ensures
-    ∙ inked-paints (a .shape) (a .ink) _ (now (a .sheet)) (fits-sheet (a .shape) (now (a .sheet)) (fitted sized) .disjoint)
+    ∙ inked-paints (a .shape) (a .ink) _ (now (a .sheet)) (fits-disjoint _ _ (fitted sized))
     ∙ ap (λ (d : Cell). paint (a .shape) (a .ink) (isCell d) (now (a .sheet))) at)
 
 pub mark-spec : {M : Type 1} → statement M
