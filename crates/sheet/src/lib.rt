@@ -64,6 +64,10 @@ pub enum Refusal {
     Slice,
     // 16: record length under 2, so that it has no kind.
     Kindless,
+    // 17: the work slice has fewer than width × height places.
+    Work,
+    // 18: the start of a fill is off the sheet.
+    Start,
 }
 
 impl Refusal {
@@ -84,6 +88,8 @@ impl Refusal {
             Refusal::Length => 10,
             Refusal::Slice => 15,
             Refusal::Kindless => 16,
+            Refusal::Work => 17,
+            Refusal::Start => 18,
         }
     }
 }
@@ -91,7 +97,7 @@ impl Refusal {
 // The reply of a drawing, of a listing and of a file.
 pub enum Reply {
     Done,
-    // how many: a line's cells on the sheet, those listed, a file's records
+    // how many: a line's or a territory's cells on the sheet, those listed, a file's records
     Counted(usize),
     Refused(Refusal),
     // and the offset in a file of the field that it names
