@@ -6,6 +6,7 @@ use mathlib.Core.Bool.{Bool, true, false, cond, _||_, or-false}
 use native.Mathlib.Omega.{arith}
 use native.Mathlib.Nat.{add-zero, add-suc}
 use native.Mathlib.Numerals.{add-one}
+use native.Mathlib.Decide.{decLe}
 use borrow.Author.Tests.{eqb-true, eqb-false, ne-eqb}
 use lib.Dec.{T, eqb}
 use Rattle.laws.specs.Below.{any, count}
@@ -90,3 +91,29 @@ count-more (suc n) test at l e = by (λ m. count-more n test at m e) (eqb n at) 
     by f false p =
         let v = f (omega (arith, eqb-false n at p)) in
         simp (p, or-false (test n)) (omega arith)
+
+-- tests that agree but from l to before r, where the numbers pass the one and not the other
+pub count-range : (n l r : ℕ) (f g : ℕ → Bool) → l ≤ r → r ≤ n → ((i : ℕ) → i < n → ((l ≤ i) × (i < r) → ⊥) → f i ≡ g i)
+    → ((i : ℕ) → l ≤ i → i < r → f i ≡ true) → ((i : ℕ) → l ≤ i → i < r → g i ≡ false) → count n f + l ≡ count n g + r
+unfolding count
+count-range zero l r f g u v h p q = omega arith
+count-range (suc n) l r f g u v h p q =
+    by
+    (λ a. count-range n l r f g u a (λ i m. h i (omega arith)) p q)
+    (λ d e. count-range n l n f g d (omega arith) (λ i m o. h i (omega arith) (λ z. o (z .0, m))) (λ i a m. p i a (omega arith)) (λ i a m. q i a (omega arith)))
+    (decLe r n) (decLe l n)
+  where
+    by : (r ≤ n → count n f + l ≡ count n g + r) → (l ≤ n → r ≡ suc n → count n f + l ≡ count n g + n) → Dec (r ≤ n) → Dec (l ≤ n)
+        → count n f + cond (f n) 1 0 + l ≡ count n g + cond (g n) 1 0 + r
+    by before last (yes a) d = rw (h n (omega arith) (λ z. omega arith)) (omega (arith, before a))
+    by before last (no a) (yes d) =
+        let e : r ≡ suc n = omega arith in
+        simp (p n d (omega arith), q n d (omega arith)) (omega (arith, last d e))
+    by before last (no a) (no d) =
+        rw (h n (omega arith) (λ z. omega arith)) (omega (arith, count-as n f g (λ i m. h i (omega arith) (λ z. omega arith))))
+
+-- numbers of which those that pass one test and those that pass another are together those that pass a third
+pub count-sum : (n : ℕ) (f g h : ℕ → Bool) → ((i : ℕ) → cond (f i) 1 0 + cond (g i) 1 0 ≡ cond (h i) 1 0) → count n f + count n g ≡ count n h
+unfolding count
+count-sum zero f g h e = refl
+count-sum (suc n) f g h e = omega (arith, count-sum n f g h e, e n)

@@ -52,6 +52,10 @@ is-false false f = refl
 pub from-true : (a : Bool) → a ≡ true → T a
 from-true a e = subst T (sym e) tt
 
+-- two tests that are true together are one
+pub same-true : (a b : Bool) → (a ≡ true → b ≡ true) → (b ≡ true → a ≡ true) → a ≡ b
+same-true a b f g = same a b (λ t. from-true b (f (is-true a t))) (λ t. from-true a (g (is-true b t)))
+
 -- both halves of an `&&`
 pub halves : (a b : Bool) → (a && b) ≡ true → (a ≡ true) × (b ≡ true)
 halves true b e = (refl, e)

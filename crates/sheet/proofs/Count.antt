@@ -77,8 +77,12 @@ module _ (f : Cell → Bool) where
       ∙ rows-cells k pitch w v (k .height) (omega arith)
       ∙ sym (ap (λ (n : ℕ). count n (held (withPitch k pitch) f)) (mul-comm pitch (k .height)))
 
-  -- no more than 4,096 × 4,096 on any sheet
+  -- no more than the sheet has
+  pub cells-area : (k : Shape) → Disjoint k → cellsOn k f ≤ k .width * k .height
+  unfolding cellsOn
+  cells-area k w = omega (arith, cells-pitch k (k .width) w (omega arith), count-most (bytes (withPitch k (k .width))) (held (withPitch k (k .width)) f))
+
+  -- and so no more than 4,096 × 4,096 on any
   pub cells-most : (k : Shape) (n : ℕ) → fits k n ≡ true → cellsOn k f ≤ 16777216
-  unfolding cellsOn fits
-  cells-most k n e =
-      omega (arith, cells-pitch k (k .width) (fits-disjoint k n e) (omega arith), count-most (bytes (withPitch k (k .width))) (held (withPitch k (k .width)) f), sides-most k (halves (sized k) (sliced k n) e .0))
+  unfolding fits
+  cells-most k n e = omega (arith, cells-area k (fits-disjoint k n e), sides-most k (halves (sized k) (sliced k n) e .0))

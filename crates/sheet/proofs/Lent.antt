@@ -14,6 +14,7 @@ use Rattle.sheet.specs.declared.Shape.{Shape}
 use Rattle.sheet.specs.declared.Refusal.{Refusal}
 use Rattle.sheet.specs.declared.Refusal.the-variants.{Size, Slice}
 use Rattle.sheet.proofs.Draws.{keeps}
+use Rattle.sheet.proofs.Unique.{number-not-0}
 
 -- two tests in turn, before an answer
 abbrev after : Bool → Bool → Answer → Answer
@@ -58,6 +59,10 @@ module _ (k : Shape) (n : ℕ) where
   pub sheet-cases : (P : Answer → Type 0) (next : Answer) → ((r : Refusal) → P (refuse r)) → (fits k n ≡ true → P next) → P (ifSheet k n next)
   unfolding ifSheet fits
   sheet-cases P next refused follows = cases-after P (sized k) (sliced k n) next refused follows
+
+  -- an answer that is 0 is of a sheet
+  pub done-sheet : (next : Answer) → isDone (ifSheet k n next) ≡ true → fits k n ≡ true
+  done-sheet next = sheet-cases (λ a. isDone a ≡ true → fits k n ≡ true) next (λ r e. absurd (true≢false (sym e ∙ number-not-0 r))) (λ e f. e)
 
   -- tested again, it comes to the same
   pub sheet-again : (next : Answer) → ifSheet k n (ifSheet k n next) ≡ ifSheet k n next

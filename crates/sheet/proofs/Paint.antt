@@ -136,3 +136,18 @@ paint-over k f g s h =
     by true a true v i = refl
     by true false false v i = refl
     by true true false v i = absurd (i tt)
+
+-- Neither over the other: figures with no cell in common may be drawn in either order.
+pub paint-swap : (k : Shape) (f g : Inked) (s : List ℕ) → ((c : Cell) → T (f .figure c) → T (g .figure c) → ⊥)
+    → paintAll k (f ∷ g ∷ []) s ≡ paintAll k (g ∷ f ∷ []) s
+unfolding paint held
+paint-swap k f g s h =
+    by-then _ _ s
+    ∙ by-as _ _ s (λ n v l. by (onSheet k (cellAt k n)) (f .figure (cellAt k n)) (g .figure (cellAt k n)) v (h (cellAt k n)))
+    ∙ sym (by-then _ _ s)
+  where
+    by : (t a b : Bool) (v : ℕ) → (T a → T b → ⊥) → cond (t && b) (g .ink) (cond (t && a) (f .ink) v) ≡ cond (t && a) (f .ink) (cond (t && b) (g .ink) v)
+    by false a b v i = refl
+    by true false b v i = refl
+    by true true false v i = refl
+    by true true true v i = absurd (i tt tt)

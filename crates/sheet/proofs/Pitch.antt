@@ -55,7 +55,7 @@ padding-stays d s a t h n p = ap (λ (u : List ℕ). getD u n 0) (h .leaves) ∙
     by false = refl
 
 -- a cell of the sheet is one of its bytes
-cell-below : (k : Shape) (s : List ℕ) → Sheet k s → (c : Cell) → onSheet k c ≡ true → place k c < length s
+pub cell-below : (k : Shape) (s : List ℕ) → Sheet k s → (c : Cell) → onSheet k c ≡ true → place k c < length s
 cell-below k s z c e =
     let o = sheet-cell k c e in
     let l = place-below k (o .column) (o .row) (omega (arith, o .in-width, z .disjoint)) (o .in-height) in
@@ -63,7 +63,7 @@ cell-below k s z c e =
 
 -- each cell of two sheets after one figure
 module _ (k : Shape) (pitch : ℕ) (ink : ℕ) (f : Cell → Bool) where
-  paint-alike : (s t : List ℕ) → Alike k pitch s t → Alike k pitch (paint k ink f s) (paint (withPitch k pitch) ink f t)
+  pub paint-alike : (s t : List ℕ) → Alike k pitch s t → Alike k pitch (paint k ink f s) (paint (withPitch k pitch) ink f t)
   unfolding fits onSheet
   paint-alike s t h =
       let y = fits-sheet k s (h .one) in
