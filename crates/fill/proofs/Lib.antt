@@ -1,0 +1,14 @@
+pub mod Searching
+pub mod Pieces
+pub mod Rows
+pub mod Growing
+pub mod Walking
+pub mod Flooding
+pub mod Filling
+pub mod Reaching
+pub mod Outcome
+pub mod Unique
+pub mod Territories
+pub mod Order
+pub mod Pitch
+pub mod Examples

@@ -1,0 +1,3 @@
+pub mod Territory
+pub mod Fill
+pub mod Inner
