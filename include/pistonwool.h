@@ -4,7 +4,8 @@
  * pitch x height; what a row has after its width is padding, and no call changes it. Rows with none have the width as pitch.
  * Limits: width and height 1 to 4,096; pitch from width to 8,192; coordinates -16,384 to 16,383; radius 0 to 16,383;
  * semi-axes 1 to 16,383; s 0 to 6.
- * Drawing sets each of a figure's cells that lies on the sheet to the ink and leaves every other byte as it was.
+ * Drawing sets each of a figure's cells that lies on the sheet to the ink and leaves every other byte as it was. Filling a
+ * territory (pw_fill) sets the cells that a boundary drawn so shuts in.
  *
  * A window, a part of a larger sheet of this pitch that begins at (x, y) and is w by h, is a sheet too (examples/window.c):
  *     pw_line(sheet + (size_t)y * pitch + x, (size_t)pitch * h, w, h, pitch, ink, ...)
@@ -27,7 +28,7 @@
 #include <stdint.h>
 
 /* the version of this header and of the library installed with it */
-#define PW_VERSION "0.2.0"
+#define PW_VERSION "0.2.1"
 
 #if SIZE_MAX != UINT64_MAX
 #error "Pistonwool is for 64-bit machines only"
@@ -37,8 +38,8 @@
 extern "C" {
 #endif
 
-/* What each number is given for. Where several apply, the first in this order: 1, 15; then for figures in metres 6, 7; for a
- * record 8, 16, 9, 10; then 2, 3, 4; 5 of a listing is last. */
+/* What each number is given for. Where several apply, the first in this order: 1, 15; then for a fill 17, 18; for figures in
+ * metres 6, 7; for a record 8, 16, 9, 10; then 2, 3, 4; 5 of a listing is last. */
 enum pw_reply {
     /* done */
     PW_DONE = 0,
@@ -65,7 +66,11 @@ enum pw_reply {
     /* a slice length other than pitch x height */
     PW_SLICE = 15,
     /* a record length under 2, which leaves no room for a kind */
-    PW_KINDLESS = 16
+    PW_KINDLESS = 16,
+    /* a work slice with fewer than width x height places */
+    PW_WORK = 17,
+    /* a start off the sheet */
+    PW_START = 18
 };
 
 /* Draws the line from (x0, y0) to (x1, y1). *cells is then its number of cells on the sheet. */
@@ -84,6 +89,15 @@ uint32_t pw_ellipse(uint8_t *sheet, size_t len, uint32_t width, uint32_t height,
  * their own: PW_COORDINATE speaks of the control points. */
 uint32_t pw_curve(uint8_t *sheet, size_t len, uint32_t width, uint32_t height, uint32_t pitch, uint8_t ink,
                   int32_t x0, int32_t y0, int32_t x1, int32_t y1, int32_t x2, int32_t y2, uint32_t s);
+
+/* Fills a territory: sets to the territory ink exactly the cells that can be reached from the start (x, y) by steps to a side
+ * neighbour on the sheet without entering a cell of the boundary ink, judged on the sheet as it is lent. *cells is then how
+ * many they are. If the start has the boundary ink, nothing is set and *cells is 0. The two inks may be equal. The start
+ * has no limits of its own: one that is off the sheet, however far, is refused with PW_START.
+ * The work slice is room for the fill: width x height places or more, one for each cell. What it holds before does not
+ * matter; after a done fill it holds whatever the fill left in it, and a refusal leaves it as it was. */
+uint32_t pw_fill(uint8_t *sheet, size_t len, uint32_t width, uint32_t height, uint32_t pitch, int32_t x, int32_t y,
+                 uint8_t boundary, uint8_t territory, uint32_t *work, size_t places, uint32_t *cells);
 
 /* Lists the cells of the line from (x0, y0) to (x1, y1) in that order, x into xs and y into ys. *cells is then how many
  * they are; places after the last keep what they held. */

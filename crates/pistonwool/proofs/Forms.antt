@@ -1,5 +1,5 @@
 -- The forms of the answers: what C is told of each.
-use Prim.Native.Nat.{ℕ, _+_}
+use Prim.Native.Nat.{ℕ, _+_, _*_}
 use mathlib.Core.Path.{refl}
 use mathlib.Core.List.{List, []}
 use mathlib.Core.Bool.{Bool, true, false, cond, _&&_}
@@ -7,12 +7,12 @@ use native.Mathlib.Omega.{arith}
 use lib.Dec.{leb}
 use lib.IntN.{ℤ}
 use lib.Ieee.{Float}
-use Rattle.sheet.specs.Sheet.{cell, inLimits, radius, semiAxis, split, cellsOn}
+use Rattle.sheet.specs.Sheet.{onSheet, cell, inLimits, radius, semiAxis, split, cellsOn}
 use Rattle.sheet.specs.declared.Cell.{Cell}
 use Rattle.sheet.specs.declared.Shape.{Shape}
 use Rattle.sheet.specs.declared.Figure.{Figure}
 use Rattle.sheet.specs.declared.Refusal.{Refusal}
-use Rattle.sheet.specs.declared.Refusal.the-variants.{Coordinate, Radius, Pieces, Room}
+use Rattle.sheet.specs.declared.Refusal.the-variants.{Coordinate, Radius, Pieces, Room, Work, Start}
 use Rattle.sheet.specs.declared.Refusal.the-variants as refusal
 use Rattle.sheet.proofs.Count.{cells-most}
 use Rattle.line.specs.Rule.{long, onLine}
@@ -29,16 +29,25 @@ use Rattle.survey.specs.declared.Metres.{Metres}
 use Rattle.survey.specs.declared.Metres.the-variants as metres
 use Rattle.survey.specs.declared.InCells.{InCells}
 use Rattle.survey.specs.declared.InCells.the-variants.{Figure as Is, Refused}
+use Rattle.fill.specs.Fill.{fillAnswer}
 use Rattle.drawing.specs.Metres.{cellsDrawing, metresDrawing}
 use Rattle.pistonwool.proofs.Told.{Tells, unless-tells, sheet-tells, None, One}
 
--- a line and a listing count cells
+-- a line, a fill and a listing count cells
 pub line-tells : (k : Shape) (a b : Cell) (n : ℕ) → Tells One (lineAnswer k a b n)
 unfolding lineAnswer
 line-tells k a b n =
     sheet-tells k n _
     (λ e. unless-tells (inLimits a && inLimits b) Coordinate _
     (λ l. Tells.done _ (record { n = cellsOn k (onLine a b); is = refl; small = omega (arith, cells-most (onLine a b) k n e) })))
+
+pub fill-tells : (k : Shape) (a : Cell) (places : ℕ) (territory : Cell → Bool) (n : ℕ) → Tells One (fillAnswer k a places territory n)
+unfolding fillAnswer
+fill-tells k a places territory n =
+    sheet-tells k n _
+    (λ e. unless-tells (leb (k .width * k .height) places) Work _
+    (λ f. unless-tells (onSheet k a) Start _
+    (λ g. Tells.done _ (record { n = cellsOn k territory; is = refl; small = omega (arith, cells-most territory k n e) }))))
 
 pub list-tells : (n m : ℕ) (a b : Cell) → Tells One (listAnswer n m a b)
 unfolding listAnswer

@@ -1,4 +1,5 @@
 pub mod Boundary
+pub mod Command
 mod Files
 mod Forms
 pub mod Pens

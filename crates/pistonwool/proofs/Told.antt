@@ -21,6 +21,7 @@ use Rattle.sheet.specs.declared.Refusal.{Refusal}
 use Rattle.sheet.proofs.Lent.{sheet-cases}
 use Rattle.sheet.proofs.Unique.{number-not-0}
 use Rattle.line.specs.Listing.{listAnswer, ListsInto}
+use Rattle.fill.specs.Fill.{fillAnswer, Fills, Spares}
 use Rattle.pistonwool.specs.Told.{numbered, counted, Keeps}
 
 -- a cell, as the machine reads its coordinates back from their bits
@@ -76,6 +77,22 @@ pub draws-count : (d : Drawing) (s t : List ℕ) (a : Answer) (n v before : ℕ)
 draws-count d s t a n v before h p e =
     let q = count-told a (subst (Tells One) (sym (h .tells)) p) n v before (e .0) (e .1) in
     (subst (λ (b : Answer). Draws d s b t) (q .0) h, q .1)
+
+-- the same of a fill
+module _ {k : Shape} {a : Cell} {b i p : ℕ} {s t : List ℕ} {r : Answer} (h : Fills k a b i p s r t) (q : Tells One (fillAnswer k a p (h .territory) (length s))) where
+  fill-told : Tells One r
+  fill-told = subst (Tells One) (sym (h .draws .tells)) q
+
+  pub fills-small : valueOf r < 4294967296
+  fills-small = one-small r fill-told
+
+  pub fills-count : {w w′ : List ℕ} (n v before : ℕ) (c : Cell) → a ≡ c → Spares r w w′ → (n ≡ r .number) × (v ≡ settled r (valueOf r) before)
+      → Fills k c b i p s (counted n v) t × (Keeps n before v × Spares (counted n v) w w′)
+  fills-count {w} {w′} n v before c f spares e =
+      let told = count-told r fill-told n v before (e .0) (e .1) in (
+        subst (λ (d : Cell). Fills k d b i p s (counted n v) t) f (subst (λ (o : Answer). Fills k a b i p s o t) (told .0) h),
+        (told .1, subst (λ (o : Answer). Spares o w w′) (told .0) spares),
+      )
 
 -- the same of a listing
 pub lists-as : (a b c d : Cell) (xs ys xs′ ys′ : List ℤ) (r : Answer) → a ≡ c → b ≡ d → ListsInto a b xs ys r xs′ ys′ → ListsInto c d xs ys r xs′ ys′

@@ -8,6 +8,7 @@ mod cells;
 mod file;
 mod metres;
 mod pen;
+mod territory;
 
 pub use cells::pw_circle;
 pub use cells::pw_curve;
@@ -21,6 +22,7 @@ pub use metres::pw_line_metres;
 pub use pen::pw_pen_begin;
 pub use pen::pw_pen_next;
 use sheet::Reply;
+pub use territory::pw_fill;
 
 // Tells a reply that counts cells: its number, and how many in cells where it is done.
 fn tell_cells(reply: Reply, cells: &mut u32) -> u32
