@@ -1,6 +1,8 @@
 //! One input of the library: written as one line, and read back from it.
+use crate::ground::Ground;
 use crate::metres::{Metres, Survey};
-use crate::native::{Cells, Pen};
+use crate::native::{Cells, Fill, Pen};
+use crate::rule::Shape;
 use std::fmt;
 use std::str::{FromStr, SplitWhitespace};
 
@@ -13,6 +15,12 @@ pub struct Size {
     pub pitch: u32,
 }
 
+impl Size {
+    pub fn shape(self) -> Shape {
+        Shape { width: self.width.into(), height: self.height.into(), pitch: self.pitch.into() }
+    }
+}
+
 #[derive(Clone, Debug)]
 pub enum Job {
     Cells(Size, u8, Cells),
@@ -23,12 +31,14 @@ pub enum Job {
     /// A pen in any state is asked.
     Next(Pen),
     File(Size, Vec<u8>),
+    /// A territory is filled on this ground, with a work slice of so many places.
+    Fill(Size, Fill, usize, Ground),
 }
 
 /// A job, and the seed of what the lent buffers hold before it.
 #[derive(Clone, Debug)]
 pub struct Case {
-    pub fill: u64,
+    pub held: u64,
     pub job: Job,
 }
 
@@ -36,6 +46,9 @@ pub struct Case {
 pub const MOST_BYTES: usize = 8192 * 4096 + 8192;
 /// The most places that a random case lends in a list.
 pub const MOST_PLACES: usize = 40_000;
+
+/// The most places that a random case lends in a work slice.
+pub const MOST_WORK: usize = 4096 * 4096 + 40;
 
 /// As many places as a line has cells; fewer where no line is that long.
 pub fn places([x0, y0, x1, y1]: [i32; 4]) -> usize {
@@ -57,13 +70,14 @@ impl Job {
             Job::Begin(_) => "pen_begin",
             Job::Next(_) => "pen_next",
             Job::File(..) => "file",
+            Job::Fill(..) => "fill",
         }
     }
 
     /// The sheet that is lent.
     pub fn size(&self) -> Option<Size> {
         match self {
-            Job::Cells(size, ..) | Job::Metres(size, ..) | Job::File(size, _) => Some(*size),
+            Job::Cells(size, ..) | Job::Metres(size, ..) | Job::File(size, _) | Job::Fill(size, ..) => Some(*size),
             Job::List(..) | Job::Begin(_) | Job::Next(_) => None,
         }
     }
@@ -89,7 +103,7 @@ fn words<T: fmt::Debug>(numbers: &[T]) -> String {
 
 impl fmt::Display for Case {
     fn fmt(&self, to: &mut fmt::Formatter) -> fmt::Result {
-        write!(to, "{} {}", self.job.name(), self.fill)?;
+        write!(to, "{} {}", self.job.name(), self.held)?;
         match &self.job {
             Job::Cells(size, ink, figure) => {
                 write!(to, " {size} {ink}")?;
@@ -114,6 +128,9 @@ impl fmt::Display for Case {
             Job::File(size, bytes) => {
                 let bytes: String = bytes.iter().map(|byte| format!("{byte:02x}")).collect();
                 write!(to, " {size} {bytes}")
+            }
+            Job::Fill(size, Fill { start, boundary, territory }, places, ground) => {
+                write!(to, " {size}{} {boundary} {territory} {places} {ground}", words(start))
             }
         }
     }
@@ -142,6 +159,14 @@ fn without_sheet(name: &str, words: &mut SplitWhitespace) -> Result<Option<Job>,
     }))
 }
 
+/// A fill, after the sheet.
+fn fill(size: Size, words: &mut SplitWhitespace) -> Result<Job, String> {
+    let fill = Fill { start: numbers(words)?, boundary: number(words)?, territory: number(words)? };
+    let (places, name) = (number(words)?, words.next().ok_or("a ground is missing")?);
+    let ground = Ground::named(name, number(words)?).ok_or(format!("no ground is named {name}"))?;
+    Ok(Job::Fill(size, fill, places, ground))
+}
+
 impl FromStr for Case {
     type Err = String;
 
@@ -149,16 +174,19 @@ impl FromStr for Case {
         let mut words = text.split_whitespace();
         let words = &mut words;
         let name = words.next().ok_or("an empty case")?;
-        let fill = number(words)?;
+        let held = number(words)?;
         if let Some(job) = without_sheet(name, words)? {
-            return Ok(Case { fill, job });
+            return Ok(Case { held, job });
         }
         let size = Size { len: number(words)?, width: number(words)?, height: number(words)?, pitch: number(words)? };
+        if name == "fill" {
+            return Ok(Case { held, job: fill(size, words)? });
+        }
         if name == "file" {
             let digits = words.next().unwrap_or("");
             let byte = |at| digits.get(at..at + 2).and_then(|pair| u8::from_str_radix(pair, 16).ok());
             let bytes: Option<Vec<u8>> = (0..digits.len()).step_by(2).map(byte).collect();
-            return Ok(Case { fill, job: Job::File(size, bytes.ok_or("bytes are pairs of digits")?) });
+            return Ok(Case { held, job: Job::File(size, bytes.ok_or("bytes are pairs of digits")?) });
         }
         let ink = number(words)?;
         if name.ends_with("_metres") {
@@ -169,7 +197,7 @@ impl FromStr for Case {
                 "ellipse_metres" => Metres::Ellipse(numbers(words)?),
                 _ => return Err(format!("no export is named {name}")),
             };
-            return Ok(Case { fill, job: Job::Metres(size, ink, Survey { east, north, size: cell_size }, figure) });
+            return Ok(Case { held, job: Job::Metres(size, ink, Survey { east, north, size: cell_size }, figure) });
         }
         let figure = match name {
             "line" => Cells::Line(numbers(words)?),
@@ -178,7 +206,7 @@ impl FromStr for Case {
             "curve" => Cells::Curve(numbers(words)?, number(words)?),
             _ => return Err(format!("no export is named {name}")),
         };
-        Ok(Case { fill, job: Job::Cells(size, ink, figure) })
+        Ok(Case { held, job: Job::Cells(size, ink, figure) })
     }
 }
 
@@ -189,7 +217,8 @@ mod tests {
     #[test]
     fn a_case_is_read_back_as_it_was_written() {
         for seed in 0..2000 {
-            for case in [Case::figure(seed), Case::file(seed), Case::damaged(seed), Case::pen(seed)] {
+            let makes = [Case::figure, Case::file, Case::damaged, Case::pen, Case::fill];
+            for case in makes.map(|make| make(seed)) {
                 let text = case.to_string();
                 let again: Case = text.parse().unwrap();
                 assert_eq!(again.to_string(), text);

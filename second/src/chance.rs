@@ -22,14 +22,14 @@ impl Case {
                 }
             }
         };
-        Case { fill: random.number(), job }
+        Case { held: random.number(), job }
     }
 
     pub fn file(seed: u64) -> Case {
         let mut random = Random(seed);
         let size = size(&mut random);
         let bytes = file(&mut random, size);
-        Case { fill: random.number(), job: Job::File(size, bytes) }
+        Case { held: random.number(), job: Job::File(size, bytes) }
     }
 
     /// A file of sound records and a bad one, on a sheet of the printing program's size.
@@ -47,14 +47,14 @@ impl Case {
             1 => record(&mut random, size, true, &mut bytes),
             _ => {}
         }
-        Case { fill: random.number(), job: Job::File(size, bytes) }
+        Case { held: random.number(), job: Job::File(size, bytes) }
     }
 
     pub fn pen(seed: u64) -> Case {
         let mut random = Random(seed);
         let ends = ends(&mut random);
         let job = if random.once_in(2) { Job::Begin(ends) } else { Job::Next(pen(&mut random, ends)) };
-        Case { fill: random.number(), job }
+        Case { held: random.number(), job }
     }
 }
 
@@ -68,6 +68,11 @@ fn size(random: &mut Random) -> Size {
         100..200 => height = random.one_of(&[4096, 4095, 1000, 300]),
         _ => {}
     }
+    sized(random, width, height)
+}
+
+/// A sheet of these sides, with any pitch; or, seldom, one that is refused.
+pub fn sized(random: &mut Random, mut width: i64, mut height: i64) -> Size {
     let mut pitch = pitch(random, width);
     let mut len = (pitch * height) as usize;
     if random.once_in(40) {

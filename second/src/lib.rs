@@ -2,7 +2,9 @@
 pub mod case;
 pub mod chance;
 mod chance_file;
+mod chance_fill;
 pub mod file;
+pub mod ground;
 pub mod guard;
 pub mod metres;
 pub mod native;
@@ -11,3 +13,5 @@ pub mod random;
 pub mod rule;
 pub mod run;
 pub mod teeth;
+mod teeth_fill;
+pub mod territory;

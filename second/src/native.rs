@@ -12,6 +12,8 @@ mod declared {
                           x: i32, y: i32, a: u32, b: u32) -> u32;
         pub fn pw_curve(sheet: *mut u8, len: usize, width: u32, height: u32, pitch: u32, ink: u8,
                         x0: i32, y0: i32, x1: i32, y1: i32, x2: i32, y2: i32, s: u32) -> u32;
+        pub fn pw_fill(sheet: *mut u8, len: usize, width: u32, height: u32, pitch: u32, x: i32, y: i32,
+                       boundary: u8, territory: u8, work: *mut u32, places: usize, cells: *mut u32) -> u32;
         pub fn pw_list(xs: *mut i32, nx: usize, ys: *mut i32, ny: usize,
                        x0: i32, y0: i32, x1: i32, y1: i32, cells: *mut u32) -> u32;
         pub fn pw_pen_begin(pen: *mut super::Pen, x0: i32, y0: i32, x1: i32, y1: i32) -> u32;
@@ -43,6 +45,14 @@ pub enum Cells {
     Circle([i32; 2], u32),
     Ellipse([i32; 2], u32, u32),
     Curve([i32; 6], u32),
+}
+
+/// Where a fill starts, the ink that it does not enter and the ink that it sets, with the types of the header.
+#[derive(Clone, Copy, Debug)]
+pub struct Fill {
+    pub start: [i32; 2],
+    pub boundary: u8,
+    pub territory: u8,
 }
 
 /// A pen as the header has it: x and y of both ends, and how many cells were told.
@@ -87,6 +97,15 @@ pub fn draw_metres(lent: Lent, ink: u8, survey: Survey, figure: Metres, cells: &
             }
         }
     }
+}
+
+pub fn fill(lent: Lent, fill: Fill, work: &mut [u32], cells: &mut u32) -> u32 {
+    let Lent { bytes, width: w, height: h, pitch } = lent;
+    let (sheet, len) = (bytes.as_mut_ptr(), bytes.len());
+    let Fill { start: [x, y], boundary, territory } = fill;
+    let (work, places) = (work.as_mut_ptr(), work.len());
+    // SAFETY: as in `draw`.
+    unsafe { declared::pw_fill(sheet, len, w, h, pitch, x, y, boundary, territory, work, places, cells) }
 }
 
 pub fn list(xs: &mut [i32], ys: &mut [i32], [x0, y0, x1, y1]: [i32; 4], cells: &mut u32) -> u32 {

@@ -1,4 +1,5 @@
 //! Figures in cells: which cells each has, and the order of the refusals.
+use crate::native::Fill;
 
 pub const LEAST: i64 = -16_384;
 pub const MOST: i64 = 16_383;
@@ -70,6 +71,10 @@ pub struct Rules {
     pub no_sheet: fn(&Sheet) -> Option<u32>,
     /// The number 2, 3 or 4 that refuses a figure, and which of its fields, counted from 0, is named.
     pub refusal: fn(&Figure) -> Option<Bad>,
+    /// The cells that a fill sets.
+    pub territory: fn(&Sheet, Fill) -> Vec<Cell>,
+    /// The reply 17 or 18 that refuses a fill on a sheet of this shape with this work slice.
+    pub no_fill: fn(Shape, Fill, &mut [u32]) -> Option<Reply>,
     /// The number that refuses a record whose length is under 2.
     pub kindless: u32,
     /// Whether a file is read to its end before the first cell is written.
@@ -91,6 +96,8 @@ impl Rules {
             asked,
             no_sheet,
             refusal,
+            territory: crate::territory::territory,
+            no_fill: crate::territory::no_fill,
             kindless: 16,
             reads_first: true,
             offset: |record, place| record + place,

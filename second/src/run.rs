@@ -1,5 +1,5 @@
 //! One case, drawn by the library between guard pages and by the second program, and compared.
-use crate::case::{places, Case, Job, Size, MOST_BYTES, MOST_PLACES};
+use crate::case::{places, Case, Job, Size, MOST_BYTES, MOST_PLACES, MOST_WORK};
 use crate::guard::{Against, Guarded};
 use crate::native::{self, Cells, Lent};
 use crate::pen::{self, Call};
@@ -10,17 +10,19 @@ use std::fmt::Display;
 /// The room for everything that a case lends to the library.
 pub struct Room {
     sheet: Guarded,
+    work: Guarded,
     lists: [Guarded; 2],
     file: Guarded,
     value: Guarded,
     pen: pen::Room,
 }
 
-/// What a case leaves behind: reply, value, the sheet, the two lists, and each call of a pen.
+/// What a case leaves behind: reply, value, the sheet, the work slice, the two lists, and each call of a pen.
 struct Outcome {
     number: u32,
     value: u64,
     sheet: Vec<u8>,
+    work: Vec<u32>,
     lists: [Vec<i32>; 2],
     calls: Vec<Call>,
 }
@@ -30,6 +32,7 @@ impl Default for Room {
         let places = || Guarded::with_room(4 * MOST_PLACES);
         Room {
             sheet: Guarded::with_room(MOST_BYTES),
+            work: Guarded::with_room(4 * MOST_WORK),
             lists: [places(), places()],
             file: Guarded::with_room(1 << 16),
             value: Guarded::with_room(8),
@@ -60,6 +63,8 @@ impl Room {
     fn by_library(&mut self, before: &Outcome, expected: &Outcome, job: &Job, against: Against) -> Result<(), String> {
         let sheet = self.sheet.lend::<u8>(before.sheet.len(), against);
         sheet.copy_from_slice(&before.sheet);
+        let work = self.work.lend::<u32>(before.work.len(), against);
+        work.copy_from_slice(&before.work);
         let [xs, ys] = self.lists.each_mut();
         let (xs, ys) = (xs.lend::<i32>(before.lists[0].len(), against), ys.lend::<i32>(before.lists[1].len(), against));
         xs.copy_from_slice(&before.lists[0]);
@@ -80,6 +85,9 @@ impl Room {
                 short(&mut |value| draw(Lent { bytes: sheet, width, height, pitch }, *ink, *survey, *figure, value))
             }
             Job::List(_, ends) | Job::Begin(ends) => short(&mut |value| native::list(xs, ys, *ends, value)),
+            Job::Fill(_, fill, ..) => {
+                short(&mut |value| native::fill(Lent { bytes: sheet, width, height, pitch }, *fill, work, value))
+            }
             Job::Next(_) => return Ok(()),
             Job::File(_, bytes) => {
                 let file = self.file.lend::<u8>(bytes.len(), against);
@@ -96,6 +104,10 @@ impl Room {
         same("reply", &[number], &[expected.number])?;
         same("value", &[value], &[expected.value])?;
         same("byte", sheet, &expected.sheet)?;
+        // a done fill may leave anything in its work slice, a refused one what was there
+        if number != 0 {
+            same("work", work, &expected.work)?;
+        }
         same("x", xs, &expected.lists[0])?;
         same("y", ys, &expected.lists[1])
     }
@@ -114,15 +126,21 @@ fn same<T: PartialEq + Display>(name: &str, found: &[T], expected: &[T]) -> Resu
 impl Outcome {
     /// What is lent, before anything is drawn.
     fn before(case: &Case) -> Outcome {
-        let mut random = Random(case.fill);
+        let mut random = Random(case.held);
         // an export that tells its value in 32 bits is lent 32 bits
         let most = if matches!(case.job, Job::File(..)) { u64::MAX } else { u64::from(u32::MAX) };
         let value = random.number() & most;
-        let (mut sheet, mut lists, mut calls) = (Vec::new(), [Vec::new(), Vec::new()], Vec::new());
+        let (mut sheet, mut work, mut lists, mut calls) =
+            (Vec::new(), Vec::new(), [Vec::new(), Vec::new()], Vec::new());
         match &case.job {
             Job::Cells(size, ..) | Job::Metres(size, ..) | Job::File(size, _) => {
                 sheet.resize(size.len, 0);
                 random.fill(&mut sheet);
+            }
+            Job::Fill(size, fill, places, ground) => {
+                sheet.resize(size.len, 0);
+                ground.lay(&mut random, &mut Sheet { shape: size.shape(), bytes: &mut sheet }, *fill);
+                work = random.numbers(*places).into_iter().map(|number| number as u32).collect();
             }
             Job::List(places, _) => lists = places.map(|count| random.numbers(count)),
             Job::Begin(ends) => {
@@ -131,19 +149,20 @@ impl Outcome {
             }
             Job::Next(pen) => calls.push(Call::before(&mut random, Some(*pen))),
         }
-        Outcome { number: 0, value, sheet, lists, calls }
+        Outcome { number: 0, value, sheet, work, lists, calls }
     }
 
     fn by_rules(&mut self, rules: &Rules, job: &Job) {
         self.calls = self.calls.first().map_or(Vec::new(), |lent| lent.by_rules(rules, job.begins()));
         let mut sheet = Sheet { shape: Shape { width: 0, height: 0, pitch: 0 }, bytes: &mut self.sheet };
-        if let Some(Size { width, height, pitch, .. }) = job.size() {
-            sheet.shape = Shape { width: width.into(), height: height.into(), pitch: pitch.into() };
+        if let Some(size) = job.size() {
+            sheet.shape = size.shape();
         }
         let Reply { number, value } = match job {
             Job::Cells(_, ink, figure) => rules.draw(&mut sheet, *ink, &widened(figure)),
             Job::Metres(_, ink, survey, figure) => rules.draw_metres(&mut sheet, *ink, *survey, *figure),
             Job::File(_, bytes) => rules.draw_file(&mut sheet, bytes),
+            Job::Fill(_, fill, ..) => rules.fill(&mut sheet, *fill, &mut self.work),
             Job::Next(_) => Reply { number: self.calls[0].number, value: None },
             Job::List(_, ends) | Job::Begin(ends) => {
                 let [x0, y0, x1, y1] = ends.map(i64::from);

@@ -2,9 +2,14 @@
 use crate::rule::{
     asked, bad_fields, cells_from, line_cells, no_sheet, place, refusal, Bad, Cell, Figure, Rules, Shape, Sheet, Told,
 };
+use crate::teeth_fill::wrong_fills;
 
 /// Each with what is wrong in it.
 pub fn wrong_programs() -> Vec<(&'static str, Rules)> {
+    [wrong_figures(), wrong_fills()].concat()
+}
+
+fn wrong_figures() -> Vec<(&'static str, Rules)> {
     let right = Rules::document();
     vec![
         ("a line walks from the first named end", Rules { line: cells_from, ..right }),

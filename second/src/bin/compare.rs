@@ -1,8 +1,8 @@
-//! Compares the proved library with the second drawing program on random figures, files, damaged files and pens.
+//! Compares the proved library with the second drawing program on random figures, files, damaged files, pens and fills.
 //!
-//!     compare [COUNT] [SEED]    COUNT figures, COUNT files, COUNT damaged files and COUNT pens
-//!     compare --one CASE        one case, as a difference prints it
-//!     compare --teeth           wrong second programs, each of which must be caught
+//!     compare [KIND] [COUNT] [SEED]    COUNT cases of each kind, or of this one: figures, files, damaged, pens, fills
+//!     compare --one CASE               one case, as a difference prints it
+//!     compare --teeth                  wrong second programs, each of which must be caught
 use second::case::{Case, Job};
 use second::guard::{Against, Guarded};
 use second::rule::Rules;
@@ -21,6 +21,15 @@ const SHOWN: u64 = 10;
 const PATIENCE: u64 = 100_000;
 
 type Make = fn(u64) -> Case;
+
+/// Each kind of case: the word that asks for it, and what its cases are called.
+const KINDS: [(&str, &str, Make); 5] = [
+    ("figures", "figures", Case::figure),
+    ("files", "files", Case::file),
+    ("damaged", "damaged files", Case::damaged),
+    ("pens", "pens", Case::pen),
+    ("fills", "fills", Case::fill),
+];
 
 thread_local! {
     /// The case that this thread is at, for the message of a touch outside.
@@ -56,7 +65,7 @@ fn case(make: Make, seed: u64, i: u64) -> Case {
 /// How often an export gave each reply, how often it changed a sheet, list or pen, and how often a sheet with padding.
 #[derive(Default)]
 struct Seen {
-    replies: [u64; 17],
+    replies: [u64; 19],
     changes: u64,
     padded: u64,
 }
@@ -123,11 +132,11 @@ fn run(name: &str, make: Make, count: u64, seed: u64) -> bool {
     differences == 0
 }
 
-/// Whether a wrong program is caught on figures, files or pens.
+/// Whether a wrong program is caught on cases of any kind.
 fn caught(rules: &Rules, seed: u64) -> bool {
     let mut room = Room::default();
     (0..PATIENCE).any(|i| {
-        [Case::figure, Case::file, Case::damaged, Case::pen].into_iter().any(|make| {
+        KINDS.into_iter().any(|(_, _, make)| {
             let case = case(make, seed, i);
             compare(&mut room, rules, &case).is_err_and(|what| {
                 println!("  caught after {i} cases: {what}\n  {case}");
@@ -159,8 +168,17 @@ fn count(results: impl IntoIterator<Item = bool>) -> ExitCode {
 }
 
 fn usage() -> ExitCode {
-    eprintln!("usage: compare [COUNT] [SEED] | compare --one CASE | compare --teeth");
+    eprintln!("usage: compare [KIND] [COUNT] [SEED] | compare --one CASE | compare --teeth");
     ExitCode::from(2)
+}
+
+/// Compares random cases of these kinds; the words are how many of each, and the seed.
+fn random(kinds: &[(&str, &str, Make)], words: &[&str]) -> ExitCode {
+    let number = |at: usize, usual: u64| words.get(at).map_or(Ok(usual), |word| word.parse());
+    match (number(0, 200_000), number(1, 1), words.len()) {
+        (Ok(many), Ok(seed), 0..=2) => count(kinds.iter().map(|(_, name, make)| run(name, *make, many, seed))),
+        _ => usage(),
+    }
 }
 
 fn main() -> ExitCode {
@@ -201,21 +219,10 @@ fn main() -> ExitCode {
             touch(side);
             ExitCode::SUCCESS
         }
-        [] | [_] | [_, _] => {
-            let number = |at: usize, usual: u64| words.get(at).map_or(Ok(usual), |word| word.parse());
-            let (Ok(many), Ok(seed)) = (number(0, 200_000), number(1, 1)) else {
-                return usage();
-            };
-            count(
-                [
-                    ("figures", Case::figure as Make),
-                    ("files", Case::file),
-                    ("damaged files", Case::damaged),
-                    ("pens", Case::pen),
-                ]
-                .map(|(name, make)| run(name, make, many, seed)),
-            )
-        }
-        _ => usage(),
+        [] => random(&KINDS, &[]),
+        [first, ref rest @ ..] => match KINDS.iter().find(|(word, ..)| *word == first) {
+            Some(kind) => random(&[*kind], rest),
+            None => random(&KINDS, &words),
+        },
     }
 }

@@ -1,7 +1,8 @@
-//! Draws a record file with the proved library on a sheet of 96 by 64, and writes the sheet as SVG.
+//! Draws a record file with the proved library on a sheet of 96 by 64, and writes the sheet as SVG. With a file of boundaries
+//! and a start in each of two territories that they bound, fills these first.
 //!
-//!     picture FILE
-use second::native::{self, Lent};
+//!     picture FILE [BOUNDARIES X Y X Y]
+use second::native::{self, Fill, Lent};
 use std::process::ExitCode;
 
 const WIDTH: usize = 96;
@@ -19,6 +20,10 @@ const INKS: [(&str, &str); 5] = [
     ("boundary", "#3d4352"),
     ("rings", "#bf6a4f"),
 ];
+
+/// The ink of a boundary, and those of two territories.
+const BOUNDARY: u8 = 4;
+const TERRITORIES: [(u8, &str); 2] = [(6, "#f3ddb8"), (7, "#d5e3e6")];
 
 /// The outline of each run of cells with this ink, row by row.
 fn runs(sheet: &[u8], ink: u8) -> String {
@@ -50,7 +55,8 @@ fn svg(sheet: &[u8]) -> String {
         8 * wide,
         8 * high,
     );
-    for (ink, (_, colour)) in (1..).zip(INKS) {
+    let figures = (1..).zip(INKS).map(|(ink, (_, colour))| (ink, colour));
+    for (ink, colour) in TERRITORIES.into_iter().filter(|(ink, _)| sheet.contains(ink)).chain(figures) {
         text += &format!("<path fill=\"{colour}\" d=\"{}\"/>\n", runs(sheet, ink));
     }
     // over the cells, so that each stands apart from the next
@@ -66,27 +72,62 @@ fn svg(sheet: &[u8]) -> String {
     text + "</g>\n</svg>\n"
 }
 
+/// A sheet, and the same one lent.
+struct Map(Vec<u8>);
+
+impl Map {
+    fn lent(&mut self) -> Lent<'_> {
+        Lent { bytes: &mut self.0, width: WIDTH as u32, height: HEIGHT as u32, pitch: WIDTH as u32 }
+    }
+
+    fn draw(&mut self, name: &str) -> Result<(), String> {
+        let file = std::fs::read(name).map_err(|why| format!("{name}: {why}"))?;
+        let mut offset = 0;
+        match native::file(self.lent(), &file, &mut offset) {
+            0 => Ok(()),
+            number => Err(format!("{name}: refused {number} at {offset}")),
+        }
+    }
+
+    fn fill(&mut self, x: &str, y: &str, ink: u8) -> Result<(), String> {
+        let number = |word: &str| word.parse::<i32>().map_err(|why| format!("{word}: {why}"));
+        let (x, y) = (number(x)?, number(y)?);
+        let mut work = vec![0; WIDTH * HEIGHT];
+        let mut cells = 0;
+        let fill = Fill { start: [x, y], boundary: BOUNDARY, territory: ink };
+        match native::fill(self.lent(), fill, &mut work, &mut cells) {
+            0 => Ok(()),
+            number => Err(format!("({x},{y}): refused {number}")),
+        }
+    }
+}
+
+fn picture(words: &[String]) -> Result<String, String> {
+    let mut map = Map(vec![0; WIDTH * HEIGHT]);
+    if let [_, boundaries, starts @ ..] = words {
+        map.draw(boundaries)?;
+        for (start, (ink, _)) in starts.chunks(2).zip(TERRITORIES) {
+            map.fill(&start[0], &start[1], ink)?;
+        }
+    }
+    map.draw(&words[0])?;
+    Ok(svg(&map.0))
+}
+
 fn main() -> ExitCode {
     let words: Vec<String> = std::env::args().skip(1).collect();
-    let [name] = &words[..] else {
-        eprintln!("usage: picture FILE");
+    if ![1, 6].contains(&words.len()) {
+        eprintln!("usage: picture FILE [BOUNDARIES X Y X Y]");
         return ExitCode::from(2);
-    };
-    let file = match std::fs::read(name) {
-        Ok(file) => file,
-        Err(why) => {
-            eprintln!("picture: {name}: {why}");
-            return ExitCode::from(2);
-        }
-    };
-    let mut sheet = vec![0; WIDTH * HEIGHT];
-    let lent = Lent { bytes: &mut sheet, width: WIDTH as u32, height: HEIGHT as u32, pitch: WIDTH as u32 };
-    let mut offset = 0;
-    let number = native::file(lent, &file, &mut offset);
-    if number != 0 {
-        eprintln!("picture: {name}: refused {number} at {offset}");
-        return ExitCode::FAILURE;
     }
-    print!("{}", svg(&sheet));
-    ExitCode::SUCCESS
+    match picture(&words) {
+        Ok(text) => {
+            print!("{text}");
+            ExitCode::SUCCESS
+        }
+        Err(why) => {
+            eprintln!("picture: {why}");
+            ExitCode::FAILURE
+        }
+    }
 }
