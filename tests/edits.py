@@ -52,7 +52,7 @@ def functions(crate):
                 kind = block[1] + "::"
             elif line == "}":
                 kind = ""
-            elif head := re.match(r'(\s*)(pub )?(?:extern "C" )?fn (\w+)', line):
+            elif head := re.match(r'(\s*)(pub )?(?:pub\(crate\) |extern "C" )?fn (\w+)', line):
                 last = lines.index(head[1] + "}", number)
                 where = str(source.relative_to(ROOT / "crates" / crate))
                 body = "\n".join(lines[number + 1:last])
