@@ -22,7 +22,8 @@ int libgd(struct sheet *s, const struct figure *f) {
     case CIRCLE: gdImageEllipse(image, f->x0, f->y0, 2 * (int)f->a, 2 * (int)f->a, 1); return 1;
     case ELLIPSE: gdImageEllipse(image, f->x0, f->y0, 2 * (int)f->a, 2 * (int)f->b, 1); return 1;
     case CURVE:
-    case LISTING: return 0;
+    case LISTING:
+    case FILL: return 0; /* a fill begins on a fresh copy of the sheet, which the image is not */
     }
     return 0;
 }

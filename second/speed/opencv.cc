@@ -20,6 +20,10 @@ int opencv(struct sheet *s, const struct figure *f) {
         cv::polylines(sheet, &first, &count, 1, false, ink);
         return 1;
     }
+    case FILL:
+        // it enters cells of the start's ink, here the one ink that is not the boundary's
+        cv::floodFill(sheet, {f->x0, f->y0}, cv::Scalar(2), nullptr, cv::Scalar(), cv::Scalar(), 4);
+        return 1;
     case LISTING: return 0;
     }
     return 0;

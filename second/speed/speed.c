@@ -7,12 +7,17 @@
 #include "pistonwool.h"
 #include "speed.h"
 
-enum { ROUNDS = 15, MOST = 20000, CELLS = 300000, RECORDS = 200, FAR = 500 };
+/* the ways that ratios are told to, after ours: C and, where it is there, OpenCV */
+#ifdef OPENCV
+enum { BESIDE = 2 };
+#else
+enum { BESIDE = 1 };
+#endif
+enum { ROUNDS = 15, MOST = 20000, CELLS = 300000, RECORDS = 200, FAR = 500, COPIED = 1 << 26 };
 
 static uint64_t state = 1;
 
-/* a number from least to most */
-static int32_t between(int32_t least, int32_t most) {
+int32_t between(int32_t least, int32_t most) {
     state = state * 6364136223846793005u + 1442695040888963407u;
     return least + (int32_t)((state >> 33) % (uint64_t)(most - least + 1));
 }
@@ -32,6 +37,9 @@ static int pistonwool(struct sheet *s, const struct figure *f) {
         reply = pw_curve(s->bytes, len, side, side, pitch, 1, f->x0, f->y0, f->x1, f->y1, f->x2, f->y2, f->s);
         break;
     case LISTING: reply = pw_list(s->xs, s->places, s->ys, s->places, f->x0, f->y0, f->x1, f->y1, &cells); break;
+    case FILL:
+        reply = pw_fill(s->bytes, len, side, side, pitch, f->x0, f->y0, 1, 2, s->work, (size_t)side * side, &cells);
+        break;
     }
     if (reply != PW_DONE) {
         fprintf(stderr, "speed: a figure was refused with %u\n", reply);
@@ -137,8 +145,24 @@ struct way {
     double best;
 };
 
+/* nanoseconds for one pass over fills. Each begins on a fresh copy of the sheet, and the copying is not timed; after it a small
+ * territory on a large sheet is no longer in the cache, for all ways alike. */
+static double fill_pass(struct sheet *s, const struct way *way, const struct figure *fills) {
+    double sum = 0;
+    for (size_t i = 0; i < way->figures; i++) {
+        memcpy(s->bytes, s->fresh, length(s));
+        double begun = now();
+        if (!way->draw(s, &fills[i]))
+            return -1;
+        sum += now() - begun;
+    }
+    return sum;
+}
+
 /* nanoseconds for one pass over the figures, or below 0 where this way does not know their kind */
 static double pass(struct sheet *s, const struct way *way, const struct figure *figures) {
+    if (figures->kind == FILL)
+        return fill_pass(s, way, figures);
     double begun = now();
     for (size_t i = 0; i < way->figures; i++)
         if (!way->draw(s, &figures[i]))
@@ -153,7 +177,7 @@ static void told(double ns) {
         printf(" | %.2f", ns);
 }
 
-/* one row of the table: each way's nanoseconds by the unit, and ours as a part of the plain walk's */
+/* one row of the table: each way's nanoseconds by the unit, and ours as a part of C's and OpenCV's */
 static void row(const char *name, const char *unit, struct sheet *s, struct way *ways, size_t n,
                 const struct figure *figures, size_t units) {
     for (size_t w = 0; w < n; w++)
@@ -170,7 +194,9 @@ static void row(const char *name, const char *unit, struct sheet *s, struct way 
         printf(", pitch %u", s->pitch);
     for (size_t w = 0; w < n; w++)
         told(ways[w].best < 0 ? -1 : ways[w].best / (double)units);
-    printf(" | %.2f |\n", ways[0].best / ways[1].best);
+    for (size_t w = 1; w <= BESIDE; w++)
+        told(ways[w].best < 0 ? -1 : ways[0].best / ways[w].best);
+    printf(" |\n");
     fflush(stdout);
 }
 
@@ -190,9 +216,47 @@ static void kind_row(enum kind kind, struct sheet *s, struct way *ways, size_t n
     row(names[kind], "cell", s, ways, n, figures, cells);
 }
 
+/* stops where a way does not fill the cells that the others do */
+static void same_cells(struct sheet *s, const struct way *ways, size_t n, const struct figure *fill, size_t cells) {
+    for (size_t w = 0; w < n; w++) {
+        size_t set = 0;
+        memcpy(s->bytes, s->fresh, length(s));
+        if (!ways[w].draw(s, fill))
+            continue;
+        for (size_t i = 0; i < length(s); i++)
+            set += s->bytes[i] == 2;
+        if (set != cells) {
+            fprintf(stderr, "speed: a way fills %zu cells in the place of %zu\n", set, cells);
+            exit(1);
+        }
+    }
+}
+
+/* one fill on one kind of ground, again and again, but with no more than so many bytes copied */
+static void fill_row(enum ground ground, struct sheet *s, struct way *ways, size_t n) {
+    static const char *const names[] = {[OPEN] = "fill of an open sheet", [SERPENTINE] = "fill of a serpentine",
+        [LINES] = "fill between lines", [NOISE] = "fill in 30 % noise", [SQUARE] = "fill of a square of 32"};
+    struct figure fill = lay(s, ground);
+    size_t cells = territory(s, &fill), often = CELLS / cells + 1, most = COPIED / length(s) + 1;
+    same_cells(s, ways, n, &fill, cells);
+    often = often < most ? often : most;
+    for (size_t i = 0; i < often; i++)
+        figures[i] = fill;
+    for (size_t w = 0; w < n; w++)
+        ways[w].figures = often;
+    row(names[ground], "cell", s, ways, n, figures, cells * often);
+}
+
+/* the square only on the largest sheet, which a fill of few cells is not to pay for */
+static void fill_rows(struct sheet *s, struct way *ways, size_t n) {
+    for (enum ground ground = OPEN; ground <= (s->side == 4096 ? SQUARE : NOISE); ground++)
+        fill_row(ground, s, ways, n);
+}
+
 static void rows(struct sheet *s, struct way *ways, size_t n) {
     if (s->pitch != s->side) {
         kind_row(LINE, s, ways, n);
+        fill_row(OPEN, s, ways, n);
         return;
     }
     for (enum kind kind = LINE; kind <= LISTING; kind++)
@@ -216,6 +280,7 @@ static void rows(struct sheet *s, struct way *ways, size_t n) {
     ways[0] = (struct way){.draw = whole_file, .figures = 1};
     row("the file", "cell", s, ways, n, figures, cells);
     ways[0].draw = pistonwool;
+    fill_rows(s, ways, n);
 }
 
 int main(void) {
@@ -234,8 +299,8 @@ int main(void) {
     ways[n++].draw = libgd;
     printf(" | libgd");
 #endif
-    printf(" | Pistonwool / C |\n|---|---");
-    for (size_t i = 0; i <= n; i++)
+    printf(" | Pistonwool / C%s |\n|---|---", BESIDE > 1 ? " | / OpenCV" : "");
+    for (size_t i = 0; i < n + BESIDE; i++)
         printf("|---");
     printf("|\n");
     for (size_t i = 0; i < sizeof sheets / sizeof *sheets; i++) {
@@ -243,7 +308,9 @@ int main(void) {
         struct sheet s = {.bytes = calloc(side, pitch), .side = side, .pitch = pitch, .places = side};
         s.xs = calloc(side, sizeof *s.xs);
         s.ys = calloc(side, sizeof *s.ys);
-        if (!s.bytes || !s.xs || !s.ys)
+        s.work = calloc((size_t)side * side, sizeof *s.work);
+        s.fresh = malloc(length(&s));
+        if (!s.bytes || !s.xs || !s.ys || !s.work || !s.fresh)
             return 1;
 #ifdef LIBGD
         libgd_begin(side);
@@ -255,6 +322,8 @@ int main(void) {
         free(s.bytes);
         free(s.xs);
         free(s.ys);
+        free(s.work);
+        free(s.fresh);
     }
     return 0;
 }

@@ -9,7 +9,10 @@
 extern "C" {
 #endif
 
-enum kind { LINE = 1, CIRCLE, ELLIPSE, CURVE, LISTING };
+enum kind { LINE = 1, CIRCLE, ELLIPSE, CURVE, LISTING, FILL };
+
+/* what a fill meets: nothing, walls with a gap at alternating ends, lines, cells shut at random, a walled square */
+enum ground { OPEN, SERPENTINE, LINES, NOISE, SQUARE };
 
 struct figure {
     enum kind kind;
@@ -22,9 +25,19 @@ struct sheet {
     uint32_t side, pitch;
     int32_t *xs, *ys;
     size_t places;
+    uint32_t *work;
+    uint8_t *fresh; /* what the sheet holds before a fill */
 };
 
-/* draws the figure with ink 1; answers whether this way knows the figure's kind */
+/* a number from least to most */
+int32_t between(int32_t least, int32_t most);
+/* lays the ground, ink 1 on ink 0, as what the sheet is to hold before; answers the fill that is measured on it */
+struct figure lay(struct sheet *sheet, enum ground ground);
+/* how many cells this fill sets, by the plain walk */
+size_t territory(struct sheet *sheet, const struct figure *fill);
+
+/* draws the figure with ink 1, or fills from (x0, y0) with ink 2 what ink 1 shuts in; answers whether this way knows the
+ * figure's kind */
 typedef int draw(struct sheet *sheet, const struct figure *figure);
 
 /* a plain C walk: figures that lie wholly on the sheet step an index, others test each cell */

@@ -1,5 +1,8 @@
-/* walk.c: what a C programmer would write without us: Bresenham's line, the midpoint circle and ellipse. */
+/* walk.c: what a C programmer would write without us: Bresenham's line, the midpoint circle and ellipse, a fill by runs with a
+ * stack. */
+#include <stdio.h>
 #include <stdlib.h>
+#include <string.h>
 
 #include "speed.h"
 
@@ -140,6 +143,51 @@ static void curve(struct sheet *s, const struct figure *c) {
     }
 }
 
+static struct cell {
+    int32_t x, y;
+} *stack;
+static size_t height, room;
+
+static void push(int32_t x, int32_t y) {
+    if (height == room) {
+        room = 2 * room + 1024;
+        stack = realloc(stack, room * sizeof *stack);
+        if (!stack) {
+            fprintf(stderr, "speed: no room for the stack\n");
+            exit(1);
+        }
+    }
+    stack[height++] = (struct cell){x, y};
+}
+
+/* one cell of each open run above or below the cells from left to right */
+static void push_runs(const struct sheet *s, int32_t left, int32_t right, int32_t y) {
+    if ((uint32_t)y >= s->side)
+        return;
+    const uint8_t *row = s->bytes + (size_t)y * s->pitch;
+    for (int32_t x = left; x <= right; x++)
+        if (row[x] == 0 && (x == left || row[x - 1] != 0))
+            push(x, y);
+}
+
+static void fill(struct sheet *s, int32_t x, int32_t y) {
+    push(x, y);
+    while (height > 0) {
+        struct cell from = stack[--height];
+        uint8_t *row = s->bytes + (size_t)from.y * s->pitch;
+        if (row[from.x] != 0)
+            continue;
+        int32_t left = from.x, right = from.x, last = (int32_t)s->side - 1;
+        while (left > 0 && row[left - 1] == 0)
+            left--;
+        while (right < last && row[right + 1] == 0)
+            right++;
+        memset(row + left, 2, (size_t)(right - left + 1));
+        push_runs(s, left, right, from.y - 1);
+        push_runs(s, left, right, from.y + 1);
+    }
+}
+
 int walk(struct sheet *s, const struct figure *f) {
     switch (f->kind) {
     case LINE: line(s, f->x0, f->y0, f->x1, f->y1); break;
@@ -147,6 +195,7 @@ int walk(struct sheet *s, const struct figure *f) {
     case ELLIPSE: ellipse(s, f->x0, f->y0, f->a, f->b); break;
     case CURVE: curve(s, f); break;
     case LISTING: list(s, f->x0, f->y0, f->x1, f->y1); break;
+    case FILL: fill(s, f->x0, f->y0); break;
     }
     return 1;
 }
