@@ -19,7 +19,7 @@ use Rattle.sheet.proofs.Count.{cells-most}
 use Rattle.sheet.proofs.Limits.{sheet-fits}
 use Rattle.sheet.proofs.Paint.{held-cell, paint-byte, paint-length}
 use Rattle.fill.specs.Territory.{Side, Open, Reach, here, step, Territory}
-use Rattle.fill.specs.Inner.{InkedRun, rowOf, leftOf, rightOf, total, spot, Shut, opens, Ready, Reached, Queue, Grown, Walked, Settled, Flooded}
+use Rattle.fill.specs.Inner.{InkedRun, rowOf, leftOf, rightOf, Throughout, total, spot, Shut, opens, Ready, Reached, Queue, Grown, Walked, Settled, Flooded}
 use Rattle.fill.proofs.Pieces.{total-none}
 use Rattle.fill.proofs.Reaching.{reach-open}
 use Rattle.fill.proofs.Rows.{of-side, open-cell}
@@ -187,7 +187,7 @@ module _ {k : Shape} {b ink x y : ℕ} {s q s₂ q₂ : List ℕ} {t₂ : ℕ} {
       )
 
   -- the bytes of the pieces are those of the test, and no others
-  held-piece : (j : ℕ) → j < t₂ → (u : ℕ) → leftOf (getD q₂ j 0) ≤ u → u < rightOf (getD q₂ j 0) → held k test (spot k u (rowOf (getD q₂ j 0))) ≡ true
+  held-piece : (j : ℕ) → j < t₂ → Throughout (getD q₂ j 0) (λ u. held k test (spot k u (rowOf (getD q₂ j 0))) ≡ true)
   unfolding place
   held-piece j l u m n =
       let w = W .on j l in
@@ -205,11 +205,11 @@ module _ {k : Shape} {b ink x y : ℕ} {s q s₂ q₂ : List ℕ} {t₂ : ℕ} {
           let at : spot k (F .column) (rowOf (getD q₂ (F .piece) 0)) ≡ n = sym (ap (place k) (F .is)) ∙ place-cell-at k n in
           subst (λ (m : ℕ). getD s₃ m 0 ≡ ink) at (P .inside (F .piece) (F .below) (F .column) (F .low) (F .high))
       by false e =
-          let none : (j : ℕ) → j < t₂ → (u : ℕ) → leftOf (getD q₂ j 0) ≤ u → u < rightOf (getD q₂ j 0) → n ≡ spot k u (rowOf (getD q₂ j 0)) → ⊥
+          let none : (j : ℕ) → j < t₂ → Throughout (getD q₂ j 0) (λ u. n ≡ spot k u (rowOf (getD q₂ j 0)) → ⊥)
           = λ j l u p q f. true≢false (sym (held-piece j l u p q) ∙ ap (held k test) (sym f) ∙ e) in
           P .outside n none ∙ old none (ℕ-discrete (getD s₂ n 0) b) (ℕ-discrete (getD s n 0) b)
         where
-          old : ((j : ℕ) → j < t₂ → (u : ℕ) → leftOf (getD q₂ j 0) ≤ u → u < rightOf (getD q₂ j 0) → n ≡ spot k u (rowOf (getD q₂ j 0)) → ⊥)
+          old : ((j : ℕ) → j < t₂ → Throughout (getD q₂ j 0) (λ u. n ≡ spot k u (rowOf (getD q₂ j 0)) → ⊥))
               → Dec (getD s₂ n 0 ≡ b) → Dec (getD s n 0 ≡ b) → getD s₂ n 0 ≡ getD s n 0
           old none (yes f) (yes g) = f ∙ sym g
           old none (yes f) (no g) = let z = Q .from n g f in absurd (none (z .0) (z .2) (z .1) (z .3) (z .4) (z .5))

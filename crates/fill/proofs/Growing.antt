@@ -11,7 +11,7 @@ use lib.ListN.{length, getD}
 use Rattle.sheet.specs.declared.Cell.{Cell}
 use Rattle.sheet.specs.declared.Shape.{Shape}
 use Rattle.sheet.proofs.Limits.{still-sheet}
-use Rattle.fill.specs.Inner.{Ahead, Back, InkedRun, rowOf, leftOf, rightOf, Queued, spot, Shut, opens, Ready, Reached, Queue, OnSheet, Grown, IfOpen, Takes}
+use Rattle.fill.specs.Inner.{Ahead, Back, InkedRun, rowOf, leftOf, rightOf, Throughout, Queued, spot, Shut, opens, Ready, Reached, Queue, OnSheet, Grown, IfOpen, Takes}
 use Rattle.fill.proofs.Rows.{along, opens-run}
 
 -- nothing yet; under a stronger promise; one after another
@@ -153,7 +153,7 @@ module _ {k : Shape} {b x y : ℕ} (l r : ℕ) {s q : List ℕ} {t : ℕ} {s′ 
             right = λ e. keeps (spot k (suc u) v) (p .right e);
           }
 
-      into : (j : ℕ) → j < t′ → Dec (j < t) → (u : ℕ) → leftOf (getD q′ j 0) ≤ u → u < rightOf (getD q′ j 0) → Reached k b a s0 s′ u (rowOf (getD q′ j 0))
+      into : (j : ℕ) → j < t′ → Dec (j < t) → Throughout (getD q′ j 0) (λ u. Reached k b a s0 s′ u (rowOf (getD q′ j 0)))
       into j m (yes w) = rw (Q .front j w) (λ u p z. still u (rowOf (getD q j 0)) (P .into j w u p z))
       into j m (no w) = λ u p z.
           let i = Q .within j (omega arith) m in

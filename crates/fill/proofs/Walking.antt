@@ -12,7 +12,7 @@ use Rattle.sheet.specs.Sheet.{cellOf}
 use Rattle.sheet.specs.declared.Cell.{Cell}
 use Rattle.sheet.specs.declared.Shape.{Shape}
 use Rattle.fill.specs.Territory.{Reach, step}
-use Rattle.fill.specs.Inner.{Ahead, rowOf, leftOf, rightOf, spot, Shut, Queue, OnSheet, Grown, IfOpen, AllIfOpen, Takes, Scanned, rowBeside, Strips, start, above, below, AllOnSheet, Walked}
+use Rattle.fill.specs.Inner.{Ahead, rowOf, leftOf, rightOf, Throughout, spot, Shut, Queue, OnSheet, Grown, IfOpen, AllIfOpen, Takes, Scanned, rowBeside, Strips, start, above, below, AllOnSheet, Walked}
 use Rattle.fill.proofs.Rows.{side-of, open-cell}
 use Rattle.fill.proofs.Growing.{grown-none, grown-as, grown-both}
 
@@ -158,12 +158,12 @@ module _ {k : Shape} {b x y turn : ℕ} {s q s₁ q₁ : List ℕ} {t₁ : ℕ} 
       subst (λ (v : ℕ). Shut k b s₂ u v) w (S .shut (omega arith) u (omega arith) (omega arith))
 
   all-above : (j : ℕ) → 2 * j + 1 < turn + 1 → Dec (2 * j + 1 < turn) → (v : ℕ) → suc v ≡ rowOf (getD q₂ j 0)
-      → (u : ℕ) → leftOf (getD q₂ j 0) ≤ u → u < rightOf (getD q₂ j 0) → Shut k b s₂ u v
+      → Throughout (getD q₂ j 0) (λ u. Shut k b s₂ u v)
   all-above j m (yes p) = rw (same j (omega arith)) (λ v e u n o. S .grown .keep (spot k u v) (W .above j p v e u n o))
   all-above j m (no p) = rw (same j (omega arith)) (λ v e u n o. above-now j (omega arith) v e u n o P)
 
   all-below : (j : ℕ) → 2 * j + 2 < turn + 1 → Dec (2 * j + 2 < turn) → suc (rowOf (getD q₂ j 0)) < k .height
-      → (u : ℕ) → leftOf (getD q₂ j 0) ≤ u → u < rightOf (getD q₂ j 0) → Shut k b s₂ u (suc (rowOf (getD q₂ j 0)))
+      → Throughout (getD q₂ j 0) (λ u. Shut k b s₂ u (suc (rowOf (getD q₂ j 0))))
   all-below j m (yes p) =
       rw (same j (omega arith)) (λ e u n o. S .grown .keep (spot k u (suc (rowOf (getD q₁ j 0)))) (W .below j p e u n o))
   all-below j m (no p) = rw (same j (omega arith)) (λ e u n o. below-now j (omega arith) e u n o P)

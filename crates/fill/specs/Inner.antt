@@ -50,6 +50,10 @@ leftOf e = e / 256 % 4096
 abbrev pub rightOf : ℕ → ℕ
 rightOf e = e / 256 % 4096 + e % 256 + 1
 
+-- what holds of every column of a piece
+abbrev pub Throughout : ℕ → (ℕ → Type 0) → Type 0
+Throughout e P = (x : ℕ) → leftOf e ≤ x → x < rightOf e → P x
+
 -- how many cells the first t pieces have
 unfoldable pub total : List ℕ → ℕ → ℕ
 total q zero = 0
@@ -98,7 +102,7 @@ pub record Reached (k : Shape) (b : ℕ) (a : Cell) (s0 s : List ℕ) (x y : ℕ
 pub record Queue (k : Shape) (b : ℕ) (a : Cell) (s0 s q : List ℕ) (t : ℕ) : Type 0 where
   pub kept : (n : ℕ) → getD s0 n 0 ≡ b → getD s n 0 ≡ b
   pub same : (n : ℕ) → (getD s n 0 ≡ b → ⊥) → getD s n 0 ≡ getD s0 n 0
-  pub into : (j : ℕ) → j < t → (x : ℕ) → leftOf (getD q j 0) ≤ x → x < rightOf (getD q j 0) → Reached k b a s0 s x (rowOf (getD q j 0))
+  pub into : (j : ℕ) → j < t → Throughout (getD q j 0) (λ x. Reached k b a s0 s x (rowOf (getD q j 0)))
   pub from : (n : ℕ) → (getD s0 n 0 ≡ b → ⊥) → getD s n 0 ≡ b
       → (j : ℕ) × (x : ℕ) × (j < t) × (leftOf (getD q j 0) ≤ x) × (x < rightOf (getD q j 0)) × (n ≡ spot k x (rowOf (getD q j 0)))
   pub number : total q t + opens k b s ≡ opens k b s0
@@ -159,16 +163,16 @@ pub record Walked (k : Shape) (b x y turns : ℕ) (s q s′ q′ : List ℕ) (t�
   pub due : turns ≤ 2 * t′ + 1
   pub begun : 0 < turns → Shut k b s′ x y
   pub above : (j : ℕ) → 2 * j + 1 < turns → (v : ℕ) → suc v ≡ rowOf (getD q′ j 0)
-      → (u : ℕ) → leftOf (getD q′ j 0) ≤ u → u < rightOf (getD q′ j 0) → Shut k b s′ u v
+      → Throughout (getD q′ j 0) (λ u. Shut k b s′ u v)
   pub below : (j : ℕ) → 2 * j + 2 < turns → suc (rowOf (getD q′ j 0)) < k .height
-      → (u : ℕ) → leftOf (getD q′ j 0) ≤ u → u < rightOf (getD q′ j 0) → Shut k b s′ u (suc (rowOf (getD q′ j 0)))
+      → Throughout (getD q′ j 0) (λ u. Shut k b s′ u (suc (rowOf (getD q′ j 0))))
 
 -- the first t pieces have the ink, and no other byte changed
 pub record Settled (pitch ink : ℕ) (q : List ℕ) (t : ℕ) (s s′ : List ℕ) : Type 0 where
   pub size : length s′ ≡ length s
-  pub inside : (j : ℕ) → j < t → (x : ℕ) → leftOf (getD q j 0) ≤ x → x < rightOf (getD q j 0) → getD s′ (rowOf (getD q j 0) * pitch + x) 0 ≡ ink
+  pub inside : (j : ℕ) → j < t → Throughout (getD q j 0) (λ x. getD s′ (rowOf (getD q j 0) * pitch + x) 0 ≡ ink)
   pub outside : (n : ℕ)
-      → ((j : ℕ) → j < t → (x : ℕ) → leftOf (getD q j 0) ≤ x → x < rightOf (getD q j 0) → n ≡ rowOf (getD q j 0) * pitch + x → ⊥)
+      → ((j : ℕ) → j < t → Throughout (getD q j 0) (λ x. n ≡ rowOf (getD q j 0) * pitch + x → ⊥))
       → getD s′ n 0 ≡ getD s n 0
 
 -- the territory of cell (x, y) has its ink, and n cells: a test tells which
