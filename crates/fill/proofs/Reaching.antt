@@ -3,7 +3,7 @@ use Prim.Native.Nat.{ℕ, _+_}
 use mathlib.Core.Path.{_≡_, ap₂, _∙_}
 use mathlib.Core.List.{List}
 use mathlib.Core.Bool.{Bool}
-use Rattle.laws.proofs.Ints.{far-back}
+use Rattle.laws.proofs.Apart.{apart-sym}
 use Rattle.laws.proofs.Tests.{same-true}
 use Rattle.sheet.specs.declared.Cell.{Cell}
 use Rattle.sheet.specs.declared.Shape.{Shape}
@@ -11,7 +11,7 @@ use Rattle.fill.specs.Territory.{Side, Open, Reach, here, step, Territor
 
 -- Side neighbours are each other's.
 pub side-back : (c d : Cell) → Side c d → Side d c
-side-back c d e = ap₂ _+_ (far-back (c .x) (d .x)) (far-back (c .y) (d .y)) ∙ e
+side-back c d e = ap₂ _+_ (apart-sym (d .x) (c .x)) (apart-sym (d .y) (c .y)) ∙ e
 
 module _ {k : Shape} {b : ℕ} {s : List ℕ} where
   -- A cell that is reached is open, and so is the start of any reach.

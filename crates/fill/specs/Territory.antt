@@ -4,14 +4,14 @@ use mathlib.Core.Path.{_≡_}
 use mathlib.Core.List.{List}
 use mathlib.Core.Bool.{Bool, true}
 use lib.ListN.{getD}
-use lib.IntN.{natAbs, _-ℤ_}
+use Rattle.sheet.specs.Chain.{wide, tall}
 use Rattle.sheet.specs.Sheet.{onSheet, place}
 use Rattle.sheet.specs.declared.Cell.{Cell}
 use Rattle.sheet.specs.declared.Shape.{Shape}
 
 -- two cells are side neighbours: one step apart, across or down
 abbrev pub Side : Cell → Cell → Type 0
-Side c d = natAbs (d .x -ℤ c .x) + natAbs (d .y -ℤ c .y) ≡ 1
+Side c d = wide c d + tall c d ≡ 1
 
 -- a cell of the sheet that does not have the boundary ink
 pub record Open (k : Shape) (boundary : ℕ) (s : List ℕ) (c : Cell) : Type 0 where

@@ -173,10 +173,6 @@ natAbs-is (negsuc n) = omega arith
 pub pos-sub : (m n : ℕ) → n ≤ m → pos m -ℤ pos n ≡ pos (m - n)
 pos-sub m n h = to-≡ℤ (pos m -ℤ pos n) (pos (m - n)) (simp (up-+, dn-+, up-neg, dn-neg) (omega arith))
 
--- a difference is as far either way
-pub far-back : (a b : ℤ) → natAbs (a -ℤ b) ≡ natAbs (b -ℤ a)
-far-back a b = simp (natAbs-is, up-+, dn-+, up-neg, dn-neg) (omega arith)
-
 -- what is known of a signed number z of w bits: the bounds of its parts, and that what the machine reads back from its bits is z
 sfits-up : (w : Width) (z : ℤ) → SFits w z → up z < 2 ^ hbits w
 sfits-up w (pos n) f = f .sfits

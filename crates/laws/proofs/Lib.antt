@@ -1,3 +1,4 @@
+pub mod Apart
 pub mod Below
 pub mod Floor
 pub mod Ints

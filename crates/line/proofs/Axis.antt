@@ -1,36 +1,18 @@
--- One axis: how far apart two places are, and the steps from one towards another.
+-- One axis: the steps from one place towards another.
 use Prim.Native.Nat.{ℕ, _+_, _-_, _≤_, _<_}
 use mathlib.Core.Path.{_≡_, refl, sym, ap, _∙_}
 use mathlib.Core.Bool.{Bool, true, false, cond}
 use mathlib.Core.Logic.{_⊎_, inl, inr}
 use native.Mathlib.Omega.{arith}
-use lib.IntN.{ℤ, pos, natAbs, _+ℤ_, _-ℤ_}
+use lib.IntN.{ℤ, pos, _+ℤ_, _-ℤ_}
 use lib.Signed.{leZ}
+use Rattle.laws.proofs.Apart.{apart, apart-is, apart-same, apart-zero, plus-is, minus-is, plus-apart, minus-apart}
 use Rattle.laws.proofs.Parts.{up, dn}
 use Rattle.laws.proofs.Ints.{parts, one-zero, to-≡ℤ, from-≡ℤ, leZ-true, leZ-false}
 use Rattle.laws.proofs.Products.{lt-or-ge}
 use Rattle.line.specs.Inner.Course.{gap}
 use Rattle.line.specs.Rule.{toward}
 use Rattle.line.specs.Distance.{steps}
-
--- how far apart
-abbrev pub apart : ℤ → ℤ → ℕ
-apart a b = natAbs (b -ℤ a)
-
-apart-is : (a b : ℤ) → apart a b ≡ gap (up b + dn a) (up a + dn b)
-apart-is a b = simp parts (omega arith)
-
-pub apart-sym : (a b : ℤ) → apart a b ≡ apart b a
-apart-sym a b = omega (arith, apart-is a b, apart-is b a)
-
-pub apart-same : (a : ℤ) → apart a a ≡ 0
-apart-same a = omega (arith, apart-is a a)
-
-pub apart-via : (a c b : ℤ) → apart a b ≤ apart a c + apart c b
-apart-via a c b = omega (arith, apart-is a b, apart-is a c, apart-is c b)
-
-apart-zero : (a b : ℤ) → apart a b ≡ 0 → a ≡ b
-apart-zero a b e = to-≡ℤ a b (omega (arith, apart-is a b))
 
 -- z is the steps from a to p, counted towards b: sums on both sides of an equation, so that no `-` is left
 record Steps (a b p z : ℤ) : Type 0 where
@@ -56,13 +38,6 @@ steps-between a b p n k h l e =
       | inl w ↦ omega (arith, s .rising w, apart-is a p, apart-is p b, apart-is a b)
       | inr w ↦ omega (arith, s .falling w, apart-is a p, apart-is p b, apart-is a b)
     ])
-
--- n more and n less, as `omega` reads them
-plus-is : (a : ℤ) (n : ℕ) → up (a +ℤ pos n) + dn a ≡ up a + n + dn (a +ℤ pos n)
-plus-is a n = simp parts (omega (arith, one-zero a))
-
-minus-is : (a : ℤ) (n : ℕ) → up (a -ℤ pos n) + n + dn a ≡ up a + dn (a -ℤ pos n)
-minus-is a n = simp parts (omega (arith, one-zero a))
 
 -- n steps towards b are n steps
 pub steps-toward : (a b : ℤ) (n : ℕ) → steps a b (toward a b n) ≡ pos n
@@ -92,8 +67,8 @@ pub toward-apart : (a b : ℤ) (m n : ℕ) → apart (toward a b m) (toward a b 
 toward-apart a b m n = by (leZ a b)
   where
     by : (t : Bool) → apart (cond t (a +ℤ pos m) (a -ℤ pos m)) (cond t (a +ℤ pos n) (a -ℤ pos n)) ≡ gap m n
-    by true = omega (arith, apart-is (a +ℤ pos m) (a +ℤ pos n), plus-is a m, plus-is a n)
-    by false = omega (arith, apart-is (a -ℤ pos m) (a -ℤ pos n), minus-is a m, minus-is a n)
+    by true = plus-apart a m n
+    by false = minus-apart a m n
 
 -- counted from the other end: where the ends are apart the steps make up the whole, and else they are the same
 pub steps-back : (a b p : ℤ) → 0 < apart a b → up (steps b a p) + up (steps a b p) ≡ apart a b + (dn (steps b a p) + dn (steps a b p))

@@ -10,12 +10,13 @@ use lib.Signed.{ltZ, leZ}
 use Rattle.laws.specs.Equal.{eqZ}
 use Rattle.laws.proofs.Ints.{parts, one-zero, le-parts, lt-parts, to-leZ, to-ltZ, to-≡ℤ, from-≡ℤ, eqZ→≡, eqZ-refl}
 use Rattle.laws.proofs.Tests.{same, from-true, halves, eqb-of}
+use Rattle.sheet.specs.Chain.{wide, tall}
 use Rattle.sheet.specs.Sheet.{inLimits}
 use Rattle.sheet.specs.Inner.{unmoved, movedCell, unmovedCell, Moved}
 use Rattle.sheet.specs.declared.Cell.{Cell}
 use Rattle.sheet.specs.declared.Spot.{Spot}
 use Rattle.sheet.proofs.Limits.{LiftedCell, lifted-cell, stands-parts}
-use Rattle.line.specs.Rule.{lesser, wide, tall, longer, shorter, long, rise, toward, fromLesser, nth}
+use Rattle.line.specs.Rule.{lesser, longer, shorter, long, rise, toward, fromLesser, nth}
 use Rattle.line.specs.Inner.Course.{gap, stepped, spotAt, lesserSpot, courseFrom, courseOf, Runs}
 use Rattle.line.proofs.Rise.{rise-le}
 

@@ -4,10 +4,10 @@ use mathlib.Core.Path.{_≡_, refl, ap, _∙_}
 use mathlib.Core.List.{[], _∷_, _++_, reverse, reverse-append}
 use native.Mathlib.Omega.{arith}
 use lib.ListN.{length, getD}
+use Rattle.sheet.specs.Chain.{Chain, Touch}
+use Rattle.sheet.specs.Chain.Chain.{end, step}
 use Rattle.sheet.specs.declared.Cell.{Cell}
 use Rattle.line.specs.Listing.{cellsOf}
-use Rattle.line.specs.Chain.{Chain, Touch}
-use Rattle.line.specs.Chain.Chain.{end, step}
 
 -- how many, and the kth
 pub cells-length : (f : ℕ → Cell) (n : ℕ) → length (cellsOf f n) ≡ n

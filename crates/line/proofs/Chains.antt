@@ -1,29 +1,19 @@
 -- Chains: how many cells they have at least, and where their cells stand.
 use Prim.Native.Nat.{ℕ, zero, suc, _+_, _-_, _≤_, _<_}
-use mathlib.Core.Path.{_≡_, refl}
+use mathlib.Core.Path.{_≡_}
 use mathlib.Core.Bool.{Bool, true, false, cond}
 use mathlib.Core.List.{List, _∷_}
 use native.Mathlib.Omega.{arith}
-use borrow.Author.Tests.{ltb-true, ltb-false}
 use lib.IntN.{pos}
 use lib.ListN.{length, getD}
+use Rattle.laws.proofs.Apart.{apart-same, apart-via}
+use Rattle.sheet.specs.Chain.{wide, tall, Chain}
+use Rattle.sheet.specs.Chain.Chain.{end, step}
 use Rattle.sheet.specs.declared.Cell.{Cell}
-use Rattle.line.specs.Rule.{wide, tall, long, steep}
-use Rattle.line.specs.Chain.{Chain, Touch}
-use Rattle.line.specs.Chain.Chain.{end, step}
+use Rattle.sheet.proofs.Chains.{touch-within}
+use Rattle.line.specs.Rule.{long, steep}
 use Rattle.line.specs.Distance.{alongBy, along}
-use Rattle.line.proofs.Axis.{apart-same, apart-via, steps-between}
-
--- a step changes neither coordinate by more than 1
-long-most : (c d : Cell) → (wide c d ≤ long c d) × (tall c d ≤ long c d)
-long-most c d = by (steep c d) refl
-  where
-    by : (t : Bool) → steep c d ≡ t → (wide c d ≤ cond t (tall c d) (wide c d)) × (tall c d ≤ cond t (tall c d) (wide c d))
-    by true e = omega (arith, ltb-true (wide c d) (tall c d) e)
-    by false e = omega (arith, ltb-false (wide c d) (tall c d) e)
-
-touch-within : (c d : Cell) → Touch c d → (wide c d ≤ 1) × (tall c d ≤ 1)
-touch-within c d e = omega (arith, long-most c d)
+use Rattle.line.proofs.Axis.{steps-between}
 
 -- as many cells as either extent asks
 chain-extents : {a b : Cell} {cells : List Cell} → Chain a b cells → (wide a b < length cells) × (tall a b < length cells)

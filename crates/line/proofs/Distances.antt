@@ -5,15 +5,17 @@ use mathlib.Core.Bool.{Bool, true, false, cond}
 use mathlib.Core.Logic.{inl, inr}
 use native.Mathlib.Omega.{arith}
 use lib.IntN.{ℤ, pos, natAbs, _-ℤ_, _*ℤ_}
+use Rattle.laws.proofs.Apart.{apart}
 use Rattle.laws.proofs.Parts.{up, dn}
 use Rattle.laws.proofs.Ints.{parts}
 use Rattle.laws.proofs.Products.{lt-or-ge}
+use Rattle.sheet.specs.Chain.{wide, tall}
 use Rattle.sheet.specs.declared.Cell.{Cell}
 use Rattle.line.specs.Inner.Course.{gap}
-use Rattle.line.specs.Rule.{lesser, wide, tall, long, short, steep}
+use Rattle.line.specs.Rule.{lesser, long, short, steep}
 use Rattle.line.specs.Listing.{listed}
 use Rattle.line.specs.Distance.{steps, along, alongBy, acrossBy, distanceBy, distance}
-use Rattle.line.proofs.Axis.{apart, steps-back, steps-same, steps-other}
+use Rattle.line.proofs.Axis.{steps-back, steps-same, steps-other}
 use Rattle.line.proofs.EitherEnd.{short-long, wide-sym, tall-sym, long-sym, short-sym, steep-sym}
 use Rattle.line.proofs.Across.{crossed, crossed-half, half-nearest}
 use Rattle.line.proofs.Place.{at, at-along, at-across, listed-at}

@@ -7,12 +7,13 @@ use lib.Dec.{T, ltb}
 use lib.IntN.{ℤ}
 use lib.Signed.{ltZ, leZ}
 use Rattle.laws.specs.Equal.{eqZ}
+use Rattle.laws.proofs.Apart.{apart-sym, apart-same}
 use Rattle.laws.proofs.Parts.{up, dn}
 use Rattle.laws.proofs.Ints.{le-parts, to-≡ℤ, from-≡ℤ, ltZ-true, ltZ-false, leZ-false, eqZ→≡, eqZ-refl}
 use Rattle.laws.proofs.Tests.{and-l, and-r, is-true, from-true}
+use Rattle.sheet.specs.Chain.{wide, tall}
 use Rattle.sheet.specs.declared.Cell.{Cell}
-use Rattle.line.specs.Rule.{lesser, wide, tall, longer, shorter, long, short, steep, fromLesser, nth}
-use Rattle.line.proofs.Axis.{apart-sym, apart-same}
+use Rattle.line.specs.Rule.{lesser, longer, shorter, long, short, steep, fromLesser, nth}
 use Rattle.line.proofs.Bridge.{shorter-le}
 
 -- the extents are the same

@@ -6,10 +6,10 @@ use mathlib.Core.List.{reverse}
 use native.Mathlib.Numerals.{add-one}
 use native.Mathlib.Omega.{arith}
 use lib.ListN.{length, getD}
+use Rattle.sheet.specs.Chain.{Chain, Touch}
 use Rattle.sheet.specs.declared.Cell.{Cell}
 use Rattle.line.specs.Rule.{lesser, long, short, nth}
 use Rattle.line.specs.Listing.{listed, cellsOf, listing}
-use Rattle.line.specs.Chain.{Chain, Touch}
 use Rattle.line.proofs.Distinct.{nth-distinct}
 use Rattle.line.proofs.EitherEnd.{short-long, long-sym, nth-either, count-back}
 use Rattle.line.proofs.Across.{crossed, crossed-first, crossed-last, crossed-grows}

@@ -3,12 +3,12 @@ use Prim.Native.Nat.{ℕ, _+_, _-_, _≤_}
 use mathlib.Core.Path.{_≡_, refl, ap, _∙_}
 use mathlib.Core.Bool.{Bool, true, false, cond}
 use native.Mathlib.Omega.{arith}
-use borrow.Author.Tests.{ltb-true, ltb-false}
 use lib.IntN.{pos}
+use Rattle.sheet.specs.Chain.{wide, tall, Touch}
 use Rattle.sheet.specs.declared.Cell.{Cell}
-use Rattle.line.specs.Rule.{lesser, wide, tall, long, short, steep, rise, toward, fromLesser, nth}
+use Rattle.sheet.proofs.Chains.{touching}
+use Rattle.line.specs.Rule.{lesser, long, short, steep, rise, toward, fromLesser, nth}
 use Rattle.line.specs.Listing.{listed}
-use Rattle.line.specs.Chain.{Touch}
 use Rattle.line.specs.Distance.{alongBy, acrossBy, along}
 use Rattle.line.proofs.Axis.{steps-toward, toward-first, toward-last, toward-apart, toward-back, toward-rest}
 use Rattle.line.proofs.EitherEnd.{long-sym, short-sym, steep-sym}
@@ -61,13 +61,6 @@ at-back a b n r l k = ap (λ (t : Bool). atBy t b a (long a b - n) r) (steep-sym
     by false l k = λ i. record { x = toward-rest (a .x) (b .x) n l i; y = toward-back (a .y) (b .y) r k i }
 
 -- one more along and at most one more across: they touch
-one-on : (c d : Cell) → wide c d ≤ 1 → tall c d ≤ 1 → 1 ≤ wide c d + tall c d → Touch c d
-one-on c d p q r = by (steep c d) refl
-  where
-    by : (t : Bool) → steep c d ≡ t → cond t (tall c d) (wide c d) ≡ 1
-    by true e = omega (arith, ltb-true (wide c d) (tall c d) e)
-    by false e = omega (arith, ltb-false (wide c d) (tall c d) e)
-
 pub at-touch : (a b : Cell) (n m k : ℕ) → m ≤ k → k ≤ m + 1 → Touch (at a b n m) (at a b (n + 1) k)
 at-touch a b n m k p q = by (steep a b)
   where
@@ -75,11 +68,11 @@ at-touch a b n m k p q = by (steep a b)
     by true =
         let u = toward-apart (a .x) (b .x) m k in
         let v = toward-apart (a .y) (b .y) n (n + 1) in
-        one-on (atBy true a b n m) (atBy true a b (n + 1) k) (omega arith) (omega arith) (omega arith)
+        touching (atBy true a b n m) (atBy true a b (n + 1) k) (omega arith) (omega arith) (omega arith)
     by false =
         let u = toward-apart (a .x) (b .x) n (n + 1) in
         let v = toward-apart (a .y) (b .y) m k in
-        one-on (atBy false a b n m) (atBy false a b (n + 1) k) (omega arith) (omega arith) (omega arith)
+        touching (atBy false a b n m) (atBy false a b (n + 1) k) (omega arith) (omega arith) (omega arith)
 
 -- the nth cell listed
 pub listed-at : (a b : Cell) (n : ℕ) → n ≤ long a b → listed a b n ≡ at a b n (crossed (lesser a b) (long a b) (short a b) n)

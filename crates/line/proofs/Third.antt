@@ -5,10 +5,10 @@ use mathlib.Core.List.{List}
 use native.Mathlib.Omega.{arith}
 use lib.IntN.{pos}
 use lib.ListN.{length, getD}
+use Rattle.sheet.specs.Chain.{Chain}
 use Rattle.sheet.specs.declared.Cell.{Cell}
 use Rattle.line.specs.Rule.{long}
 use Rattle.line.specs.Listing.{listing}
-use Rattle.line.specs.Chain.{Chain}
 use Rattle.line.specs.Distance.{along, distance}
 use Rattle.line.specs.Demand.{ThirdDemand}
 use Rattle.line.proofs.Listed.{listing-chain, listing-length, listing-nth, listing-backwards, listed-distinct}

@@ -7,12 +7,13 @@ use lib.IntN.{ℤ, pos, natAbs, _+ℤ_, _-ℤ_}
 use lib.Signed.{leZ}
 use Rattle.laws.proofs.Parts.{up, dn}
 use Rattle.laws.proofs.Ints.{parts, natAbs-is, one-zero, leZ-true, leZ-false}
+use Rattle.sheet.specs.Chain.{wide, tall}
 use Rattle.sheet.specs.Sheet.{coordinate, inLimits}
 use Rattle.sheet.specs.Inner.{loweredCell}
 use Rattle.sheet.specs.declared.Cell.{Cell}
 use Rattle.sheet.specs.declared.Spot.{Spot}
 use Rattle.sheet.proofs.Limits.{LiftedCell, limit-low, limit-high, limit-in, limits-x, limits-y, lowered-cell}
-use Rattle.line.specs.Rule.{lesser, wide, tall, long, steep, rise, toward, fromLesser, nth}
+use Rattle.line.specs.Rule.{lesser, long, steep, rise, toward, fromLesser, nth}
 use Rattle.line.specs.Listing.{listed}
 use Rattle.line.specs.Inner.Course.{spotAt, lesserSpot, courseOf}
 use Rattle.line.proofs.Bridge.{lesser-is, course-cell, course-long, long-limit}

@@ -5,10 +5,10 @@ use mathlib.Core.Bool.{true, false}
 use mathlib.Core.List.{List, reverse}
 use lib.ListN.{length, getD}
 use lib.IntN.{pos}
+use Rattle.sheet.specs.Chain.{wide, tall, Chain}
 use Rattle.sheet.specs.declared.Cell.{Cell}
-use Rattle.line.specs.Rule.{wide, tall, long}
+use Rattle.line.specs.Rule.{long}
 use Rattle.line.specs.Listing.{listed, listing}
-use Rattle.line.specs.Chain.{Chain}
 use Rattle.line.specs.Distance.{along, distanceBy, distance}
 
 pub record ThirdDemand (a b : Cell) : Type 0 where

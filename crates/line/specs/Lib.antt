@@ -1,5 +1,4 @@
 pub mod Asking
-pub mod Chain
 pub mod Demand
 pub mod Distance
 pub mod Draw

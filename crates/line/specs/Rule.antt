@@ -2,23 +2,17 @@
 use Prim.Native.Nat.{ℕ, _+_, _*_, _/_}
 use mathlib.Core.Bool.{Bool, cond, _&&_, _||_}
 use lib.Dec.{ltb}
-use lib.IntN.{ℤ, pos, natAbs, _+ℤ_, _-ℤ_}
+use lib.IntN.{ℤ, pos, _+ℤ_, _-ℤ_}
 use lib.Signed.{ltZ, leZ}
 use Rattle.laws.specs.Below.{any}
 use Rattle.laws.specs.Equal.{eqZ}
+use Rattle.sheet.specs.Chain.{wide, tall}
 use Rattle.sheet.specs.Sheet.{isCell}
 use Rattle.sheet.specs.declared.Cell.{Cell}
 
 -- The lesser end is the one with the smaller y; with equal y, the smaller x.
 unfoldable pub lesser : Cell → Cell → Bool
 lesser a b = ltZ (a .y) (b .y) || (eqZ (a .y) (b .y) && leZ (a .x) (b .x))
-
--- the two extents |x1 − x0| and |y1 − y0|
-abbrev pub wide : Cell → Cell → ℕ
-wide a b = natAbs (b .x -ℤ a .x)
-
-abbrev pub tall : Cell → Cell → ℕ
-tall a b = natAbs (b .y -ℤ a .y)
 
 -- the longer and the shorter of two extents
 abbrev pub longer : ℕ → ℕ → ℕ

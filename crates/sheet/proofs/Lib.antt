@@ -1,4 +1,5 @@
 pub mod Cells
+pub mod Chains
 pub mod Places
 pub mod Paint
 pub mod Count

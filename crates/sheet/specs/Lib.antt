@@ -1,4 +1,5 @@
 pub mod Sheet
+pub mod Chain
 pub mod Reply
 pub mod Drawing
 pub mod Pitch
