@@ -18,7 +18,7 @@ use Rattle.sheet.proofs.Draws.{draws-as}
 use Rattle.line.specs.Rule.{lesser, rise, fromLesser, nth, onLine}
 use Rattle.line.specs.Draw.{lineAnswer}
 use Rattle.line.specs.Listing.{listed, listAnswer, ListsInto}
-use Rattle.ring.specs.Ring.{around, inEighth, circleRule, slope, nearest, inColumn, ellipseRule}
+use Rattle.ring.specs.Ring.{around, inEighth, circleRule, nearest, ellipseRule}
 use Rattle.ring.specs.Draw.{ringAnswer}
 use Rattle.curve.specs.Rule.{blend, coordinateAt, pointAt, onCurve}
 use Rattle.curve.specs.Draw.{allInLimits, curveAnswer}
@@ -59,7 +59,7 @@ unfolding paint byPlace held onSheet cellAt ringAnswer ifSheet inLimits coordina
 circle-draws a h = nothing (h .leaves)
 
 pub ellipse-draws : DrawsNothing (Ellipse (cellOf 1 0) 1 1)
-unfolding paint byPlace held onSheet cellAt ringAnswer semiAxis ifSheet inLimits coordinate around ellipseRule inColumn slope nearest
+unfolding paint byPlace held onSheet cellAt ringAnswer semiAxis ifSheet inLimits coordinate around ellipseRule nearest
 ellipse-draws a h = nothing (h .leaves)
 
 pub curve-draws : DrawsNothing (Curve (cellOf 0 0) (cellOf 0 0) (cellOf 0 0) 0)

@@ -1,4 +1,4 @@
--- Document 01, "Checked examples": the starred ones, of all figures, in one table.
+-- Document 01, "Checked examples": the starred ones, of all figures, in one table; and examples of our own in the same form.
 use Prim.Native.Nat.{ℕ, zero, suc, _+_, _^_, _≤_}
 use mathlib.Core.Path.{_≡_}
 use mathlib.Core.List.{List, [], _∷_, _++_}
@@ -14,11 +14,11 @@ use Rattle.sheet.specs.declared.Figure.{Figure}
 use Rattle.sheet.specs.declared.Figure.the-variants.{Circle, Ellipse}
 use Rattle.drawing.specs.Figure.{onFigure}
 
--- a line by its ends and the cells listed; a ring by the cells (x, y) that it is mirrored from, and how many it has;
--- a curve by its control points, s and its points
+-- a line by its ends and the cells listed; a ring by how far it goes at most, the cells (x, y) that it is mirrored from, and how
+-- many it has; a curve by its control points, s and its points
 pub data Example : Type 0 where
   line : (a b : Cell) → List Cell → Example
-  ring : Figure → List Cell → ℕ → Example
+  ring : ℕ → Figure → List Cell → ℕ → Example
   curve : List Cell → ℕ → List Cell → Example
 
 -- the numbers −n to n, and the cells of their rows
@@ -34,26 +34,26 @@ unfoldable pub rows : List ℤ → List ℤ → List Cell
 rows xs [] = []
 rows xs (y ∷ ys) = row y xs ++ rows xs ys
 
--- the cells with coordinates −4 to 4 that a figure holds
+-- the cells with coordinates −n to n that a figure holds
 unfoldable pub among : List Cell → (Cell → Bool) → List Cell
 among [] figure = []
 among (c ∷ cs) figure = cond (figure c) (c ∷ among cs figure) (among cs figure)
 
-abbrev pub near : (Cell → Bool) → List Cell
-near = among (rows (span 4) (span 4))
+abbrev pub near : ℕ → (Cell → Bool) → List Cell
+near n = among (rows (span n) (span n))
 
 -- the cells (±x, ±y) from a list of (x, y)
 unfoldable pub mirrored : List Cell → Cell → Bool
 mirrored [] d = false
 mirrored (c ∷ cs) d = (eqb (natAbs (d .x)) (natAbs (c .x)) && eqb (natAbs (d .y)) (natAbs (c .y))) || mirrored cs d
 
--- a line lists just these; a ring has no cell further than 4 away, just those mirrored from these, and so many; a curve has just these points
+-- a line lists just these; a ring has no cell further away, just those mirrored from these, and so many; a curve has just these points
 abbrev pub Holds : Example → Type 0
 Holds (line a b cells) = listing a b ≡ cells
-Holds (ring f from n) =
-    ((d : Cell) → T (onFigure f d) → (natAbs (d .x) ≤ 4) × (natAbs (d .y) ≤ 4))
-    × (near (onFigure f) ≡ near (mirrored from))
-    × (length (near (onFigure f)) ≡ n)
+Holds (ring limit f from n) =
+    ((d : Cell) → T (onFigure f d) → (natAbs (d .x) ≤ limit) × (natAbs (d .y) ≤ limit))
+    × (near limit (onFigure f) ≡ near limit (mirrored from))
+    × (length (near limit (onFigure f)) ≡ n)
 Holds (curve ps s points) = cellsOf (pointAt ps (2 ^ s)) (2 ^ s + 1) ≡ points
 
 pub data AllHold : (es : List Example) → Type 0 where
@@ -92,10 +92,19 @@ starredExamples =
     ∷ line (cellOf 0 0) above (cellOf 0 0 ∷ cellOf 1 0 ∷ above ∷ [])
     ∷ line (cellOf 0 0) (cellOf 1 2) (cellOf 0 0 ∷ cellOf 1 1 ∷ cellOf 1 2 ∷ [])
     ∷ line (cellOf 4 4) (cellOf 4 4) (cellOf 4 4 ∷ [])
-    ∷ ring (Circle (cellOf 0 0) 0) from0 1
-    ∷ ring (Circle (cellOf 0 0) 2) from2 12
-    ∷ ring (Circle (cellOf 0 0) 3) from3 16
-    ∷ ring (Ellipse (cellOf 0 0) 3 2) from32 16
+    ∷ ring 4 (Circle (cellOf 0 0) 0) from0 1
+    ∷ ring 4 (Circle (cellOf 0 0) 2) from2 12
+    ∷ ring 4 (Circle (cellOf 0 0) 3) from3 16
+    ∷ ring 4 (Ellipse (cellOf 0 0) 3 2) from32 16
     ∷ curve (cellOf 0 0 ∷ cellOf 2 4 ∷ cellOf 4 0 ∷ []) 1 (cellOf 0 0 ∷ cellOf 2 2 ∷ cellOf 4 0 ∷ [])
     ∷ curve (level less ∷ level less ∷ level (pos 0) ∷ []) 1 (level less ∷ level less ∷ level (pos 0) ∷ [])
     ∷ []
+
+-- Document 02, K4: the ring that had holes, 10 by 1, has 38 cells, from (0,1) to (8,1), (9,0) and (10,0)
+abbrev pub from101 : List Cell
+from101 =
+    cellOf 0 1 ∷ cellOf 1 1 ∷ cellOf 2 1 ∷ cellOf 3 1 ∷ cellOf 4 1 ∷ cellOf 5 1 ∷ cellOf 6 1 ∷ cellOf 7 1 ∷ cellOf 8 1
+    ∷ cellOf 9 0 ∷ cellOf 10 0 ∷ []
+
+unfoldable pub ownExamples : List Example
+ownExamples = ring 10 (Ellipse (cellOf 0 0) 10 1) from101 38 ∷ []

@@ -1,62 +1,36 @@
--- The column rule in the columns 0..a: its one cell in a column, where it stops, and an ellipse as its columns and its rows.
-use Prim.Native.Nat.{ℕ, _*_, _≤_, _<_}
+-- The column rule in the columns 0..a: its one cell in a column, and an ellipse as its columns and its rows.
+use Prim.Native.Nat.{ℕ, _*_, _≤_}
 use mathlib.Core.Path.{_≡_}
 use mathlib.Core.Logic.{inl, inr}
 use mathlib.Core.Bool.{Bool, _&&_, _||_}
-use native.Mathlib.Omega.{arith}
-use native.Mathlib.Nat.{mul-le-mul-left}
 use lib.Dec.{T, leb, leb→le, le→leb}
 use lib.IntN.{pos}
-use Rattle.laws.proofs.Products.{lt-or-ge}
 use Rattle.laws.proofs.Tests.{and-l, and-r, and-i, or-l, or-r, or-e, same}
-use Rattle.ring.specs.Ring.{slope, nearest, inColumn, ellipseRule}
+use Rattle.ring.specs.Ring.{nearest, ellipseRule}
 use Rattle.ring.specs.Inner.{reach, Least, columns}
-use Rattle.ring.proofs.Least.{least-one, least-falls}
-use Rattle.ring.proofs.Reach.{reach-falls, at-most}
+use Rattle.ring.proofs.Least.{least-one}
+use Rattle.ring.proofs.Reach.{at-most}
 use Rattle.ring.proofs.Nearest.{nearest→, →nearest}
 
 -- what the rule says of an offset
 pub record InColumns (a b x y : ℕ) : Type 0 where
   pub within : x ≤ a
-  pub sloped : b * b * x ≤ a * a * y
   pub least : Least (a * a) (reach a b x) y
 
 pub columns→ : (a b x y : ℕ) → T (columns a b x y) → InColumns a b x y
-unfolding columns inColumn slope
+unfolding columns
 columns→ a b x y t =
-    let h = leb→le x a (and-l (leb x a) (inColumn (pos a) (pos b) (pos x) (pos y)) t) in
-    let u = and-r (leb x a) (inColumn (pos a) (pos b) (pos x) (pos y)) t in
-    let l : T (leb (b * b * x) (a * a * y)) = and-l (leb (b * b * x) (a * a * y)) (nearest (pos a) (pos b) (pos x) (pos y)) u in
-    record {
-      within = h;
-      sloped = leb→le (b * b * x) (a * a * y) l;
-      least = nearest→ a b x h y (and-r (leb (b * b * x) (a * a * y)) (nearest (pos a) (pos b) (pos x) (pos y)) u);
-    }
+    let h = leb→le x a (and-l (leb x a) (nearest (pos a) (pos b) (pos x) (pos y)) t) in
+    record { within = h; least = nearest→ a b x h y (and-r (leb x a) (nearest (pos a) (pos b) (pos x) (pos y)) t) }
 
 pub →columns : (a b x y : ℕ) → InColumns a b x y → T (columns a b x y)
-unfolding columns inColumn slope
+unfolding columns
 →columns a b x y i =
-    let h = le→leb x a (i .within) in
-    let l = le→leb (b * b * x) (a * a * y) (i .sloped) in
-    let n = →nearest a b x (i .within) y (i .least) in
-    search and-i
+    and-i (leb x a) (nearest (pos a) (pos b) (pos x) (pos y)) (le→leb x a (i .within)) (→nearest a b x (i .within) y (i .least))
 
--- where y is the least of column x
-module _ (a b x y : ℕ) (n : Least (a * a) (reach a b x) y) where
-  -- a cell of the column is at y
-  pub column-at : (v : ℕ) → T (columns a b x v) → v ≡ y
-  column-at v t = least-one (a * a) (reach a b x) v y (columns→ a b x v t .least) n
-
-  -- and where the slope test fails, no column from x on has a cell
-  pub column-stops : a * a * y < b * b * x → (u v : ℕ) → T (columns a b u v) → u < x
-  column-stops s u v t =
-      let i = columns→ a b u v t in
-      elim (lt-or-ge u x) [
-        | inl l ↦ l
-        | inr l ↦ absurd (
-            let f = least-falls (a * a) (reach a b u) (reach a b x) v y (reach-falls a b x u l) (i .least) n in
-            omega (arith, mul-le-mul-left (a * a) f, mul-le-mul-left (b * b) l))
-      ]
+-- a cell of column x is at its least y
+pub column-at : (a b x y : ℕ) → Least (a * a) (reach a b x) y → (v : ℕ) → T (columns a b x v) → v ≡ y
+column-at a b x y n v t = least-one (a * a) (reach a b x) v y (columns→ a b x v t .least) n
 
 -- an ellipse is its columns, and its rows: the columns of the one with the axes exchanged
 pub columns-and-rows : (a b : ℕ) → 1 ≤ a → 1 ≤ b → (u v : ℕ) → (columns a b u v || columns b a v u) ≡ ellipseRule a b u v
@@ -64,10 +38,10 @@ unfolding ellipseRule columns
 columns-and-rows a b p q u v = same (columns a b u v || columns b a v u) (leb u a && leb v b && (C || R)) to from
   where
     C : Bool
-    C = inColumn (pos a) (pos b) (pos u) (pos v)
+    C = nearest (pos a) (pos b) (pos u) (pos v)
 
     R : Bool
-    R = inColumn (pos b) (pos a) (pos v) (pos u)
+    R = nearest (pos b) (pos a) (pos v) (pos u)
 
     to : T (columns a b u v || columns b a v u) → T (leb u a && leb v b && (C || R))
     to t =

@@ -1,7 +1,7 @@
 -- A circle from radius 1 up is the ellipse of equal axes; of radius 0 it is its centre.
 use Prim.Native.Nat.{ℕ, zero, suc, _+_, _-_, _*_, _≤_, _<_}
-use mathlib.Core.Path.{_≡_, refl, sym, subst, ap₂, _∙_}
-use mathlib.Core.Logic.{inl, inr}
+use mathlib.Core.Path.{_≡_, refl, sym, subst, _∙_}
+use mathlib.Core.Logic.{_⊎_, inl, inr, ⊎-elim}
 use mathlib.Core.Bool.{Bool, false, _&&_, _||_}
 use native.Mathlib.Omega.{arith}
 use native.Mathlib.Nat.{mul-le-mul-left, lt-of-mul-lt-mul-left, le-of-mul-le-mul-left}
@@ -11,8 +11,8 @@ use lib.IntN.{ℤ, pos, _-ℤ_}
 use lib.Signed.{leZ, ltZ}
 use Rattle.laws.proofs.Parts.{up, dn}
 use Rattle.laws.proofs.Ints.{parts, le-parts, lt-parts, to-leZ, to-ltZ}
-use Rattle.laws.proofs.Products.{sq-le, sq-lt-back}
-use Rattle.laws.proofs.Tests.{and-l, and-r, and-i, or-l, or-e, same}
+use Rattle.laws.proofs.Products.{lt-or-ge, sq-le, sq-lt-back}
+use Rattle.laws.proofs.Tests.{and-l, and-r, and-i, or-l, or-r, or-e, same}
 use Rattle.ring.specs.Ring.{inEighth, circleRule, ellipseRule}
 use Rattle.ring.specs.Inner.{edge, reach, Least, isOffset, columns}
 use Rattle.ring.proofs.Around.{offset→, →offset}
@@ -81,14 +81,19 @@ module _ (r x j : ℕ) where
             omega (arith, mul-le-mul-left (r * r) g, sq-le h);
       }
 
-  least-eighth : 1 ≤ r → x ≤ r → x ≤ suc j → Least (r * r) (reach r r x) (suc j) → Eighth r x j
+  least-low : 1 ≤ r → x ≤ r → Least (r * r) (reach r r x) (suc j) → suc j * j + x * x < r * r
   unfolding edge reach
-  least-eighth h k l n =
-      let o : 1 ≤ r * r = sq-le h in
+  least-low h k n =
       let e : (r * r - x * x) + x * x ≡ r * r = omega (arith, sq-le k) in
-      let lo : (2 * j + 1) * (2 * j + 1) ≤ 4 * (r * r - x * x) = le-of-mul-le-mul-left {k = r * r} (omega (arith, n .low j (omega arith))) o in
-      let hi : 4 * (r * r - x * x) < (2 * suc j + 1) * (2 * suc j + 1) = lt-of-mul-lt-mul-left (r * r) (omega (arith, n .high)) in
-      record { steep = l; low = omega arith; high = omega arith }
+      let l : (2 * j + 1) * (2 * j + 1) ≤ 4 * (r * r - x * x) = le-of-mul-le-mul-left {k = r * r} (omega (arith, n .low j (omega arith))) (sq-le h) in
+      omega arith
+
+least-high : (r x y : ℕ) → x ≤ r → Least (r * r) (reach r r x) y → r * r ≤ y * (y + 1) + x * x
+unfolding edge reach
+least-high r x y k n =
+    let e : (r * r - x * x) + x * x ≡ r * r = omega (arith, sq-le k) in
+    let l : 4 * (r * r - x * x) < (2 * y + 1) * (2 * y + 1) = lt-of-mul-lt-mul-left (r * r) (omega (arith, n .high)) in
+    omega arith
 
 -- the offset (x, 0) is in an eighth only of radius 0, and only at x = 0
 eighth-zero : (r x : ℕ) → T (inEighth (pos r) (pos x) (pos 0)) → (x ≡ 0) × (r ≡ 0)
@@ -97,37 +102,60 @@ eighth-zero r x t =
     let l = leb→le x 0 (and-l (leb x 0) (eqb r 0) t) in
     (omega arith, eqb→eq r 0 (and-r (leb x 0) (eqb r 0) t))
 
--- the column 0 does not meet the row 0
-not-zero : (r x : ℕ) → 1 ≤ r → x ≤ 0 → Least (r * r) (reach r r x) 0 → ⊥
-unfolding edge reach
-not-zero r x h l n =
-    let z : x ≡ 0 = omega arith in
-    let e : r * r - x * x ≡ r * r = rw z (omega arith) in
-    let g = rw e at (n .high) in
-    omega (arith, mul-le-mul-left (r * r) (sq-le h))
+module _ (r : ℕ) (h : 1 ≤ r) where
+  -- a cell of the column rule with equal axes is in an eighth, where it is no further across than down
+  straight : (x y : ℕ) → x ≤ y → InColumns r r x y → T (inEighth (pos r) (pos x) (pos y))
+  straight x zero l i = absurd (omega (arith, least-high r x 0 (i .within) (i .least), sq-le {a = x} {b = 0} l, sq-le h))
+  straight x (suc j) l i =
+      →eighth r x j (record { steep = l; low = least-low r x j h (i .within) (i .least); high = omega (arith, least-high r x (suc j) (i .within) (i .least)) })
 
--- an eighth's cells are those of the column rule with equal axes
-eighth-is : (r : ℕ) → 1 ≤ r → (x y : ℕ) → columns r r x y ≡ inEighth (pos r) (pos x) (pos y)
-eighth-is r h x y = same (columns r r x y) (inEighth (pos r) (pos x) (pos y)) (λ t. to y (columns→ r r x y t)) (from y)
-  where
-    steep : (y : ℕ) → InColumns r r x y → x ≤ y
-    steep y i = le-of-mul-le-mul-left {k = r * r} (i .sloped) (sq-le h)
+  -- and in the other one, where it is further across than down
+  turned-low : (k y : ℕ) → y < suc k → InColumns r r (suc k) y → suc k * k + y * y < r * r
+  turned-low k zero l i = omega (arith, sq-le (i .within))
+  turned-low k (suc j) l i = omega (arith, least-low r (suc k) j h (i .within) (i .least))
 
-    to : (y : ℕ) → InColumns r r x y → T (inEighth (pos r) (pos x) (pos y))
-    to zero i = absurd (not-zero r x h (steep 0 i) (i .least))
-    to (suc j) i = →eighth r x j (least-eighth r x j h (i .within) (steep (suc j) i) (i .least))
+  across : (x y : ℕ) → y < x → InColumns r r x y → T (inEighth (pos r) (pos y) (pos x))
+  across zero y l i = absurd (omega arith)
+  across (suc k) y l i =
+      →eighth r y k (record { steep = omega arith; low = turned-low k y l i; high = omega (arith, least-high r (suc k) y (i .within) (i .least)) })
 
-    from : (y : ℕ) → T (inEighth (pos r) (pos x) (pos y)) → T (columns r r x y)
-    from zero t = absurd (omega (arith, eighth-zero r x t))
-    from (suc j) t =
-        let i = eighth→ r x j t in
-        let k : x < r = sq-lt-back x r (omega (arith, i .low)) in
-        →columns r r x (suc j) (record { within = omega arith; sloped = mul-le-mul-left (r * r) (i .steep); least = eighth-least r x j h (omega arith) i })
+  in-eighth : (x y : ℕ) → T (columns r r x y) → T (inEighth (pos r) (pos x) (pos y)) ⊎ T (inEighth (pos r) (pos y) (pos x))
+  in-eighth x y t =
+      let i = columns→ r r x y t in
+      elim (lt-or-ge y x) [ inl l ↦ inr (across x y l i) | inr l ↦ inl (straight x y l i) ]
 
--- an ellipse of equal axes is the circle
-pub circle-is-ellipse : (r : ℕ) → 1 ≤ r → (u v : ℕ) → ellipseRule r r u v ≡ circleRule r u v
-unfolding circleRule
-circle-is-ellipse r h u v = sym (columns-and-rows r r h h u v) ∙ ap₂ _||_ (eighth-is r h u v) (eighth-is r h v u)
+  -- an eighth's cells are of the column rule
+  of-eighth : (x y : ℕ) → T (inEighth (pos r) (pos x) (pos y)) → T (columns r r x y)
+  of-eighth x zero t = absurd (omega (arith, eighth-zero r x t))
+  of-eighth x (suc j) t =
+      let i = eighth→ r x j t in
+      let k : x < r = sq-lt-back x r (omega (arith, i .low)) in
+      →columns r r x (suc j) (record { within = omega arith; least = eighth-least r x j h (omega arith) i })
+
+  -- an ellipse of equal axes is the circle
+  pub circle-is-ellipse : (u v : ℕ) → ellipseRule r r u v ≡ circleRule r u v
+  unfolding circleRule
+  circle-is-ellipse u v = sym (columns-and-rows r r h h u v) ∙ same (columns r r u v || columns r r v u) (E || F) to from
+    where
+      E : Bool
+      E = inEighth (pos r) (pos u) (pos v)
+
+      F : Bool
+      F = inEighth (pos r) (pos v) (pos u)
+
+      to : T (columns r r u v || columns r r v u) → T (E || F)
+      to t =
+          elim (or-e (columns r r u v) (columns r r v u) t) [
+            | inl t ↦ ⊎-elim (or-l E F) (or-r E F) (in-eighth u v t)
+            | inr t ↦ ⊎-elim (or-r E F) (or-l E F) (in-eighth v u t)
+          ]
+
+      from : T (E || F) → T (columns r r u v || columns r r v u)
+      from t =
+          elim (or-e E F t) [
+            | inl t ↦ or-l (columns r r u v) (columns r r v u) (of-eighth u v t)
+            | inr t ↦ or-r (columns r r u v) (columns r r v u) (of-eighth v u t)
+          ]
 
 -- the circle of radius 0 is its centre
 pub circle-is-centre : (u v : ℕ) → isOffset 0 0 u v ≡ circleRule 0 u v

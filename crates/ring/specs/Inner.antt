@@ -5,7 +5,7 @@ use lib.Dec.{leb, eqb}
 use lib.IntN.{pos}
 use Rattle.sheet.specs.Inner.{Moved}
 use Rattle.sheet.specs.declared.Spot.{Spot}
-use Rattle.ring.specs.Ring.{inColumn}
+use Rattle.ring.specs.Ring.{nearest}
 
 -- A(2y + 1)²
 unfoldable pub edge : ℕ → ℕ → ℕ
@@ -35,4 +35,4 @@ turned s t rule x y = (s && rule x y) || (t && rule y x)
 
 -- the column rule in the columns 0..a
 unfoldable pub columns : ℕ → ℕ → ℕ → ℕ → Bool
-columns a b x y = leb x a && inColumn (pos a) (pos b) (pos x) (pos y)
+columns a b x y = leb x a && nearest (pos a) (pos b) (pos x) (pos y)

@@ -1,18 +1,15 @@
--- Document 01, "Circles and ellipses".
+-- Document 01, "Circles and ellipses", with the ellipse of document 02, K4.
 use Prim.Native.Nat.{ℕ}
 use mathlib.Core.Bool.{Bool, _&&_, _||_}
-use lib.IntN.{ℤ, pos, natAbs, _+ℤ_, _-ℤ_, _*ℤ_}
+use lib.IntN.{ℤ, pos, _+ℤ_, _-ℤ_, _*ℤ_}
 use lib.Signed.{leZ, ltZ}
 use Rattle.laws.specs.Equal.{eqZ}
+use Rattle.sheet.specs.Chain.{wide, tall}
 use Rattle.sheet.specs.declared.Cell.{Cell}
-
--- how far a coordinate is from the centre's, in either direction
-abbrev pub away : ℤ → ℤ → ℕ
-away z centre = natAbs (z -ℤ centre)
 
 -- all cells (±x, ±y) from the centre, 0 ≤ x and 0 ≤ y, for which the rule holds
 unfoldable pub around : Cell → (ℕ → ℕ → Bool) → Cell → Bool
-around c rule d = rule (away (d .x) (c .x)) (away (d .y) (c .y))
+around c rule d = rule (wide c d) (tall c d)
 
 -- z²
 abbrev pub sq : ℤ → ℤ
@@ -35,31 +32,19 @@ circleRule r x y = inEighth (pos r) (pos x) (pos y) || inEighth (pos r) (pos y) 
 abbrev pub onCircle : Cell → ℕ → Cell → Bool
 onCircle c r = around c (circleRule r)
 
--- b²x ≤ a²y
-unfoldable pub slope : ℤ → ℤ → ℤ → ℤ → Bool
-slope a b x y = leZ (sq b *ℤ x) (sq a *ℤ y)
-
--- 4b²(a² − x²) < a²(2y + 1)², and y = 0 or a²(2y − 1)² ≤ 4b²(a² − x²): of the column's cells, y is the nearest to the ellipse
+-- column rule: 4b²(a² − x²) < a²(2y + 1)², and y = 0 or a²(2y − 1)² ≤ 4b²(a² − x²): the cell is nearest in its column
 unfoldable pub nearest : ℤ → ℤ → ℤ → ℤ → Bool
 nearest a b x y =
     ltZ (pos 4 *ℤ sq b *ℤ (sq a -ℤ sq x)) (sq a *ℤ sq (pos 2 *ℤ y +ℤ pos 1))
     && (eqZ y (pos 0)
     || leZ (sq a *ℤ sq (pos 2 *ℤ y -ℤ pos 1)) (pos 4 *ℤ sq b *ℤ (sq a -ℤ sq x)))
 
--- column rule
-unfoldable pub inColumn : ℤ → ℤ → ℤ → ℤ → Bool
-inColumn a b x y = slope a b x y && nearest a b x y
-
--- row rule: the column rule with the axes exchanged
-abbrev pub inRow : ℤ → ℤ → ℤ → ℤ → Bool
-inRow a b x y = inColumn b a y x
-
--- x ≤ a, y ≤ b, and one of these holds
+-- x ≤ a, y ≤ b, and the cell is nearest in its column or nearest in its row: the column rule with the axes exchanged
 unfoldable pub ellipseRule : ℕ → ℕ → ℕ → ℕ → Bool
 ellipseRule a b x y =
     leZ (pos x) (pos a)
     && leZ (pos y) (pos b)
-    && (inColumn (pos a) (pos b) (pos x) (pos y) || inRow (pos a) (pos b) (pos x) (pos y))
+    && (nearest (pos a) (pos b) (pos x) (pos y) || nearest (pos b) (pos a) (pos y) (pos x))
 
 -- Ellipse of semi-axes a, b.
 abbrev pub onEllipse : Cell → ℕ → ℕ → Cell → Bool

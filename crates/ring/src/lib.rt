@@ -80,7 +80,6 @@ fn ink_turned(
 }
 
 // Inks the columns of an ellipse where straight holds, and the rows of the one with its axes exchanged where turn holds.
-// It ends where the slope test turns.
 fn sweep(
     sheet: &mut [u8],
     shape: Shape,
@@ -101,9 +100,6 @@ fn sweep(
     let mut x: u64 = 0;
     while x <= a {
         y = stepped_down(aa, 4 * bb * (aa - x * x), y);
-        if aa * y < bb * x {
-            return;
-        }
         ink_turned(sheet, shape, ink, centre, straight, turn, x, y);
         x += 1;
     }

@@ -2,7 +2,6 @@
 use Prim.Native.Nat.{_+_, _-_, _*_, _≤_, _<_}
 use mathlib.Core.Path.{_≡_, ap, _∙_}
 use native.Mathlib.Omega.{arith}
-use native.Mathlib.Nat.{mul-le-mul}
 use denote.Ref.{now}
 use lib.ListN.{length}
 use Rattle.laws.proofs.Products.{sq-le}
@@ -12,7 +11,7 @@ use Rattle.sheet.proofs.Paint.{paint-length}
 use Rattle.ring.specs.Ring.{around}
 use Rattle.ring.specs.Inner.{edge, reach, Least, turned, columns}
 use Rattle.ring.proofs.Reach.{reach-falls, reach-below, reach-small}
-use Rattle.ring.proofs.Columns.{columns→, →columns, column-at, column-stops}
+use Rattle.ring.proofs.Columns.{columns→, →columns, column-at}
 use Rattle.ring.proofs.Turns.{before, sweep-begins, sweep-turn, sweep-ends}
 use Rattle.ring.proofs.sweep.Statement.{statement}
 use Rattle.ring.proofs.sweep.Tie as tie
@@ -62,32 +61,8 @@ unfolding reach
 stepped-down-requires c κs =
     (sq-le {a = c .before .before .before .args .a} {b = 16383} (omega arith), omega arith, c .before .loop .inv .2)
 
-mul-if1 : tie.Need-mul-if1 Inv-loop μ-loop
-mul-if1 c =
-    let a = c .before .before .before .before .args in
-    omega (arith, mul-le-mul {n₁ = a .a * a .a} {m₁ = c .stepped-down .result} {n₂ = 268402689} {m₂ = 16383} (sq-le {a = a .a} {b = 16383} (omega arith)) (omega arith))
-
-mul-if1-2 : tie.Need-mul-if1-2 Inv-loop μ-loop
-mul-if1-2 c =
-    let a = c .before .before .before .before .args in
-    omega (arith, mul-le-mul {n₁ = a .b * a .b} {m₁ = c .before .before .loop .x} {n₂ = 268402689} {m₂ = 16383} (sq-le {a = a .b} {b = 16383} (omega arith)) (omega arith))
-
-same-length : tie.Need-same-length Inv-loop μ-loop
-same-length c =
-    let a = c .before .before .before .before .before .args in
-    ap length (c .before .before .before .loop .inv .3) ∙ paint-length (a .shape) (a .ink) _ (now (a .sheet))
-
-returns : tie.Need-returns Inv-loop μ-loop
-unfolding reach
-returns c =
-    let a = c .before .before .before .before .before .args in
-    let x = c .before .before .before .loop .x in
-    sweep-ends (a .shape) (a .ink) (unmovedCell (a .centre)) (a .straight) (a .turn) (columns (a .a) (a .b)) x
-    (column-stops (a .a) (a .b) x (c .before .stepped-down .result) (c .before .stepped-down .ensures .0) (c .if1 .taken))
-    (now (a .sheet)) _ (c .before .before .before .loop .inv .3)
-
 ink-turned-requires : tie.Need-ink-turned-requires Inv-loop μ-loop
-ink-turned-requires c κs = let start = c .before .before .before .before .before .before in (start .pre .0, start .pre .1, omega arith, omega arith)
+ink-turned-requires c κs = let start = c .before .before .before .before .before in (start .pre .0, start .pre .1, omega arith, omega arith)
 
 add-x : tie.Need-add-x Inv-loop μ-loop
 add-x c = omega arith
@@ -98,27 +73,27 @@ loop-less c = omega arith
 loop-again : tie.Need-loop-again Inv-loop μ-loop
 unfolding reach
 loop-again c =
-    let a = c .before .before .before .before .before .before .before .before .before .args in
-    let at-loop = c .before .before .before .before .before .before .before .loop in
+    let a = c .before .before .before .before .before .before .before .before .args in
+    let at-loop = c .before .before .before .before .before .before .loop in
     let x = at-loop .x in
-    let y = c .before .before .before .before .before .stepped-down .result in
-    let n : Least (a .a * a .a) (reach (a .a) (a .b) x) y = c .before .before .before .before .before .stepped-down .ensures .0 in (
+    let y = c .before .before .before .before .stepped-down .result in
+    let n : Least (a .a * a .a) (reach (a .a) (a .b) x) y = c .before .before .before .before .stepped-down .ensures .0 in (
       omega arith,
       omega arith,
       omega (arith, reach-falls (a .a) (a .b) x (x + 1) (omega arith), n .high),
       sweep-turn (a .shape) (a .ink) (unmovedCell (a .centre)) (a .straight) (a .turn) (columns (a .a) (a .b)) x y
           (column-at (a .a) (a .b) x y n)
-          (→columns (a .a) (a .b) x y (record { within = omega arith; sloped = c .before .before .before .before .if1 .left; least = n }))
+          (→columns (a .a) (a .b) x y (record { within = omega arith; least = n }))
           (now (a .sheet)) _ _ (at-loop .inv .3) (c .before .before .ink-turned .ensures),
     )
 
-same-length-2 : tie.Need-same-length-2 Inv-loop μ-loop
-same-length-2 c =
+same-length : tie.Need-same-length Inv-loop μ-loop
+same-length c =
     let a = c .before .before .before .args in
     ap length (c .before .loop .inv .3) ∙ paint-length (a .shape) (a .ink) _ (now (a .sheet))
 
-returns-2 : tie.Need-returns-2 Inv-loop μ-loop
-returns-2 c =
+returns : tie.Need-returns Inv-loop μ-loop
+returns c =
     let a = c .before .before .before .args in
     let x = c .before .loop .x in
     sweep-ends (a .shape) (a .ink) (unmovedCell (a .centre)) (a .straight) (a .turn) (columns (a .a) (a .b)) x
@@ -139,13 +114,9 @@ sweep-spec =
     sub-stepped-down
     mul-stepped-down-3
     stepped-down-requires
-    mul-if1
-    mul-if1-2
-    same-length
-    returns
     ink-turned-requires
     add-x
     loop-less
     loop-again
-    same-length-2
-    returns-2)
+    same-length
+    returns)
