@@ -33,6 +33,11 @@ pub or-e : (a b : Bool) → T (a || b) → T a ⊎ T b
 or-e true b t = inl tt
 or-e false b t = inr t
 
+-- a test holds or it does not
+pub holds-or-not : (a : Bool) → T a ⊎ (T a → ⊥)
+holds-or-not true = inl tt
+holds-or-not false = inr (λ t. t)
+
 -- two tests that hold together are one
 pub same : (a b : Bool) → (T a → T b) → (T b → T a) → a ≡ b
 same true true f g = refl

@@ -6,7 +6,8 @@ use mathlib.Core.List.{List}
 use mathlib.Core.Bool.{Bool, true, false, _&&_, _||_}
 use native.Mathlib.Omega.{arith}
 use lib.Dec.{T, eqb, eqb→eq}
-use lib.IntN.{pos, natAbs, _-ℤ_}
+use lib.IntN.{pos}
+use Rattle.laws.proofs.Apart.{apart}
 use Rattle.laws.proofs.Ints.{parts, to-≡ℤ}
 use Rattle.laws.proofs.Products.{lt-or-ge}
 use Rattle.laws.proofs.Tests.{or-l, or-r, or-e, same, eqb-of}
@@ -23,10 +24,7 @@ use Rattle.ring.specs.Inner.{isOffset}
 use Rattle.ring.proofs.Around.{painted-then, offset→, →offset}
 
 -- how far a column or a row of the sheet is from a moved coordinate
-abbrev away : ℕ → ℕ → ℕ
-away i m = natAbs (pos i -ℤ unmoved m)
-
-away-is : (i m : ℕ) → away i m ≡ (i + 65536 - m) + (m - (i + 65536))
+away-is : (i m : ℕ) → apart (unmoved m) (pos i) ≡ (i + 65536 - m) + (m - (i + 65536))
 away-is i m = simp parts (omega arith)
 
 -- which cell of the sheet a spot is
@@ -44,19 +42,19 @@ spot-is p i j = same (isCell (unmovedCell p) (cellOf i j)) (isOffset (p .x) (p .
         subst (λ (c : Cell). T (isCell (unmovedCell p) c)) (λ i. record { x = u i; y = v i }) (is-cell-refl (unmovedCell p))
 
 -- a column at an offset from the centre is left or right of it by so much
-left-or-right : (i m x : ℕ) → x ≤ m → (eqb (i + 65536) (m - x) || eqb (i + 65536) (m + x)) ≡ eqb (away i m) x
-left-or-right i m x h = same (eqb (i + 65536) (m - x) || eqb (i + 65536) (m + x)) (eqb (away i m) x) to from
+left-or-right : (i m x : ℕ) → x ≤ m → (eqb (i + 65536) (m - x) || eqb (i + 65536) (m + x)) ≡ eqb (apart (unmoved m) (pos i)) x
+left-or-right i m x h = same (eqb (i + 65536) (m - x) || eqb (i + 65536) (m + x)) (eqb (apart (unmoved m) (pos i)) x) to from
   where
-    to : T (eqb (i + 65536) (m - x) || eqb (i + 65536) (m + x)) → T (eqb (away i m) x)
+    to : T (eqb (i + 65536) (m - x) || eqb (i + 65536) (m + x)) → T (eqb (apart (unmoved m) (pos i)) x)
     to t =
         elim (or-e (eqb (i + 65536) (m - x)) (eqb (i + 65536) (m + x)) t) [
           | inl t ↦ eqb-of _ x (omega (arith, away-is i m, eqb→eq (i + 65536) (m - x) t))
           | inr t ↦ eqb-of _ x (omega (arith, away-is i m, eqb→eq (i + 65536) (m + x) t))
         ]
 
-    from : T (eqb (away i m) x) → T (eqb (i + 65536) (m - x) || eqb (i + 65536) (m + x))
+    from : T (eqb (apart (unmoved m) (pos i)) x) → T (eqb (i + 65536) (m - x) || eqb (i + 65536) (m + x))
     from t =
-        let e = eqb→eq (away i m) x t in
+        let e = eqb→eq (apart (unmoved m) (pos i)) x t in
         let d = away-is i m in
         elim (lt-or-ge (i + 65536) m) [
           | inl l ↦ or-l (eqb (i + 65536) (m - x)) (eqb (i + 65536) (m + x)) (eqb-of (i + 65536) (m - x) (omega arith))

@@ -1,8 +1,9 @@
 -- 4b²(a² − x²), the number that the nearest y of column x is measured by.
-use Prim.Native.Nat.{ℕ, _*_, _≤_, _<_}
+use Prim.Native.Nat.{ℕ, _+_, _*_, _≤_, _<_}
+use mathlib.Core.Path.{_≡_}
 use mathlib.Core.Logic.{inl, inr}
 use native.Mathlib.Omega.{arith}
-use native.Mathlib.Nat.{mul-le-mul, mul-le-mul-left, sub-le-sub-left, sub-le}
+use native.Mathlib.Nat.{mul-le-mul, mul-le-mul-left, mul-sub, sub-le-sub-left, sub-le}
 use Rattle.laws.proofs.Products.{lt-or-ge, sq-le}
 use Rattle.ring.specs.Inner.{edge, reach, Least}
 
@@ -13,6 +14,11 @@ reach-falls a b x z h = mul-le-mul-left (4 * (b * b)) (sub-le-sub-left (sq-le {a
 reach-most : (a b x : ℕ) → reach a b x ≤ 4 * (b * b) * (a * a)
 unfolding reach
 reach-most a b x = mul-le-mul-left (4 * (b * b)) (sub-le (a * a) (x * x))
+
+-- what is left of the whole, as a sum
+pub reach-sum : (a b x : ℕ) → x ≤ a → reach a b x + 4 * (b * b) * (x * x) ≡ 4 * (b * b) * (a * a)
+unfolding reach
+reach-sum a b x h = omega (arith, mul-sub (4 * (b * b)) (a * a) (x * x), mul-le-mul-left (4 * (b * b)) (sq-le h))
 
 -- the product stays below 2^59
 pub reach-small : (a b x : ℕ) → a ≤ 16383 → b ≤ 16383 → reach a b x < 576460752303423488

@@ -1,3 +1,4 @@
 pub mod Ring
 pub mod Draw
+pub mod Holes
 pub mod Inner
