@@ -191,6 +191,9 @@ pub fn circle(random: &mut Random, size: Size) -> Cells {
 }
 
 pub fn ellipse(random: &mut Random, size: Size) -> Cells {
+    if random.once_in(3) {
+        return flat_ellipse(random, size);
+    }
     let centre = point(random, size);
     if random.once_in(2) {
         return Cells::Ellipse(centre, radius(random, size.width), radius(random, size.height));
@@ -199,6 +202,17 @@ pub fn ellipse(random: &mut Random, size: Size) -> Cells {
     let [x, y] = to_the_sheet(random, size, centre);
     let part = random.within(1, 63) as f64 / 64.0;
     Cells::Ellipse(centre, (x / part) as u32, (y / (1.0 - part * part).sqrt()) as u32)
+}
+
+/// One axis is 1 to 3, the other up to 300; the centre or the end of an axis is on the sheet.
+fn flat_ellipse(random: &mut Random, size: Size) -> Cells {
+    let (long, short) = (random.within(1, 300), random.within(1, 3));
+    let (a, b) = if random.once_in(2) { (long, short) } else { (short, long) };
+    let mut about = |side: u32, axis: i64| {
+        let on = random.within(0, i64::from(side.clamp(1, 4096)) - 1);
+        (on + random.one_of(&[0, axis, -axis])) as i32
+    };
+    Cells::Ellipse([about(size.width, a), about(size.height, b)], a as u32, b as u32)
 }
 
 pub fn curve(random: &mut Random, size: Size) -> Cells {

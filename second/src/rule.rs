@@ -266,17 +266,17 @@ pub fn on_circle(r: i64, from_centre: Cell) -> bool {
     (y >= 1 && y * (y - 1) < rest && rest <= y * (y + 1)) || (y == 0 && r == 0)
 }
 
-pub fn on_ellipse(a: i64, b: i64, from_centre: Cell) -> bool {
+/// Nearest in its column or nearest in its row.
+pub fn on_ellipse(a: i64, b: i64, (x, y): Cell) -> bool {
+    in_column(a, b, (x, y)) || in_column(b, a, (y, x))
+}
+
+/// Whether the cell is the one of its column that is nearest to the ellipse; with axes and coordinates exchanged, of its row.
+pub fn in_column(a: i64, b: i64, from_centre: Cell) -> bool {
     let (x, y) = (from_centre.0.abs(), from_centre.1.abs());
-    let (aa, bb) = (a * a, b * b);
-    let odd_square = |odd: i64| odd * odd;
-    let column = bb * x <= aa * y
-        && 4 * bb * (aa - x * x) < aa * odd_square(2 * y + 1)
-        && (y == 0 || aa * odd_square(2 * y - 1) <= 4 * bb * (aa - x * x));
-    let row = bb * x >= aa * y
-        && 4 * aa * (bb - y * y) < bb * odd_square(2 * x + 1)
-        && (x == 0 || bb * odd_square(2 * x - 1) <= 4 * aa * (bb - y * y));
-    x <= a && y <= b && (column || row)
+    let edge = |odd: i64| a * a * odd * odd;
+    let height = 4 * b * b * (a * a - x * x);
+    x <= a && y <= b && height < edge(2 * y + 1) && (y == 0 || edge(2 * y - 1) <= height)
 }
 
 #[cfg(test)]
@@ -326,6 +326,25 @@ mod tests {
         assert_eq!(count(Figure::Ellipse((20, 20), 3, 2)), 16);
         for cell in [(0, 2), (1, 2), (2, 1), (3, 1), (3, 0)] {
             assert!(on_ellipse(3, 2, cell));
+        }
+    }
+
+    #[test]
+    fn flat_rings_have_no_holes() {
+        assert_eq!(count(Figure::Ellipse((20, 20), 10, 1)), 38);
+        assert!((-8..=8).all(|x| on_ellipse(10, 1, (x, 1)) && on_ellipse(10, 1, (x, -1))));
+        assert!([9, 10].iter().all(|&x| on_ellipse(10, 1, (x, 0)) && on_ellipse(10, 1, (-x, 0))));
+        for (a, b) in (1..=40).flat_map(|a| (1..=40).map(move |b| (a, b))) {
+            assert!((-a..=a).all(|x| (-b..=b).any(|y| on_ellipse(a, b, (x, y)))), "a column of {a} by {b}");
+            assert!((-b..=b).all(|y| (-a..=a).any(|x| on_ellipse(a, b, (x, y)))), "a row of {a} by {b}");
+        }
+    }
+
+    #[test]
+    fn equal_axes_are_the_circle() {
+        for r in 1..=60 {
+            let cells = (-r..=r).flat_map(|x| (-r..=r).map(move |y| (x, y)));
+            assert!(cells.into_iter().all(|cell| on_ellipse(r, r, cell) == on_circle(r, cell)), "radius {r}");
         }
     }
 

@@ -1,6 +1,7 @@
 //! Second programs that are wrong on purpose: a comparison that is worth anything catches each.
 use crate::rule::{
-    asked, bad_fields, cells_from, line_cells, no_sheet, place, refusal, Bad, Cell, Figure, Rules, Shape, Sheet, Told,
+    asked, bad_fields, cells_from, in_column, line_cells, no_sheet, place, refusal, Bad, Cell, Figure, Rules, Shape,
+    Sheet, Told,
 };
 use crate::teeth_fill::wrong_fills;
 
@@ -22,7 +23,9 @@ fn wrong_figures() -> Vec<(&'static str, Rules)> {
         ("a line goes on into the padding", Rules { place: in_padding, ..right }),
         ("a circle's outer edge has < for <=", Rules { on_circle: circle_outside_edge, ..right }),
         ("a circle's inner edge has <= for <", Rules { on_circle: circle_inside_edge, ..right }),
-        ("an ellipse has no row rule", Rules { on_ellipse: ellipse_by_columns, ..right }),
+        ("an ellipse has no row rule", Rules { on_ellipse: in_column, ..right }),
+        ("a flat ellipse has holes, by the slope conditions of the base", Rules { on_ellipse: sloped, ..right }),
+        ("an ellipse's cells are nearest in column and row", Rules { on_ellipse: nearest_in_both, ..right }),
         ("a curve's division drops the fraction", Rules { floor: |n, d| n / d, ..right }),
         ("a cell in metres drops the fraction", Rules { cell: dropped, ..right }),
         ("a cell in metres is the nearest", Rules { cell: nearest, ..right }),
@@ -95,8 +98,13 @@ fn circle_inside_edge(r: i64, (x, y): Cell) -> bool {
     (y >= 1 && y * (y - 1) <= rest && rest <= y * (y + 1)) || (y == 0 && r == 0)
 }
 
-fn ellipse_by_columns(a: i64, b: i64, (x, y): Cell) -> bool {
-    crate::rule::on_ellipse(a, b, (x, y)) && b * b * x.abs() <= a * a * y.abs()
+fn sloped(a: i64, b: i64, (x, y): Cell) -> bool {
+    let (across, down) = (b * b * x.abs(), a * a * y.abs());
+    (across <= down && in_column(a, b, (x, y))) || (across >= down && in_column(b, a, (y, x)))
+}
+
+fn nearest_in_both(a: i64, b: i64, (x, y): Cell) -> bool {
+    in_column(a, b, (x, y)) && in_column(b, a, (y, x))
 }
 
 fn dropped(q: f64) -> Option<i64> {
