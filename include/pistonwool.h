@@ -28,7 +28,7 @@
 #include <stdint.h>
 
 /* the version of this header and of the library installed with it */
-#define PW_VERSION "0.2.1"
+#define PW_VERSION "0.2.2"
 
 #if SIZE_MAX != UINT64_MAX
 #error "Pistonwool is for 64-bit machines only"
@@ -81,7 +81,8 @@ uint32_t pw_line(uint8_t *sheet, size_t len, uint32_t width, uint32_t height, ui
 uint32_t pw_circle(uint8_t *sheet, size_t len, uint32_t width, uint32_t height, uint32_t pitch, uint8_t ink,
                    int32_t x, int32_t y, uint32_t r);
 
-/* Draws the ellipse of semi-axes a along x and b along y about (x, y). */
+/* Draws the ellipse of semi-axes a along x and b along y about (x, y): the cells nearest to it in their column or in their row.
+ * However flat it is, it has no holes: neighbours on it touch by a side or a corner all round. */
 uint32_t pw_ellipse(uint8_t *sheet, size_t len, uint32_t width, uint32_t height, uint32_t pitch, uint8_t ink,
                     int32_t x, int32_t y, uint32_t a, uint32_t b);
 
