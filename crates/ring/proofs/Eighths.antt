@@ -81,6 +81,7 @@ module _ (r x j : ℕ) where
             omega (arith, mul-le-mul-left (r * r) g, sq-le h);
       }
 
+  -- and back, half by half
   least-low : 1 ≤ r → x ≤ r → Least (r * r) (reach r r x) (suc j) → suc j * j + x * x < r * r
   unfolding edge reach
   least-low h k n =
