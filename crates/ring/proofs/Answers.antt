@@ -18,7 +18,7 @@ use Rattle.sheet.proofs.Lent.{if-sheet}
 use Rattle.sheet.proofs.Limits.{lifted-cell}
 use Rattle.ring.specs.Ring.{around}
 use Rattle.ring.specs.Draw.{ringAnswer}
-use Rattle.ring.specs.Inner.{Centred}
+use Rattle.ring.specs.Inner.{Centred, Axis}
 
 -- a ring about a centre within the limits, drawn on a sheet that fits
 pub ring-done : (k : Shape) (ink : ℕ) (c : Cell) (limits : Bool) (rule : ℕ → ℕ → Bool) (s t : List ℕ) (p : Spot)
@@ -35,13 +35,11 @@ centred c p e f = let l = lifted-cell c p e f in record { column = l .inside-x; 
 pub radius-is : (r : ℕ) → radius r ≡ true → r ≤ 16383
 radius-is r e = leb→le r 16383 (from-true (leb r 16383) e)
 
-semi-axis-is : (a : ℕ) → T (semiAxis a) → (1 ≤ a) × (a ≤ 16383)
+semi-axis-is : (a : ℕ) → T (semiAxis a) → Axis a
 unfolding semiAxis
 semi-axis-is a t = (leb→le 1 a (and-l (leb 1 a) (leb a 16383) t), leb→le a 16383 (and-r (leb 1 a) (leb a 16383) t))
 
-pub semi-axes-are : (a b : ℕ) → (semiAxis a && semiAxis b) ≡ true → (1 ≤ a) × (a ≤ 16383) × (1 ≤ b) × (b ≤ 16383)
+pub semi-axes-are : (a b : ℕ) → (semiAxis a && semiAxis b) ≡ true → Axis a × Axis b
 semi-axes-are a b e =
     let t = from-true (semiAxis a && semiAxis b) e in
-    let p = semi-axis-is a (and-l (semiAxis a) (semiAxis b) t) in
-    let q = semi-axis-is b (and-r (semiAxis a) (semiAxis b) t) in
-    (p .0, p .1, q .0, q .1)
+    (semi-axis-is a (and-l (semiAxis a) (semiAxis b) t), semi-axis-is b (and-r (semiAxis a) (semiAxis b) t))

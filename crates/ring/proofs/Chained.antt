@@ -12,9 +12,8 @@ use Rattle.sheet.specs.Chain.{wide, tall, Chain}
 use Rattle.sheet.specs.Chain.Chain.{end, step}
 use Rattle.sheet.specs.declared.Cell.{Cell}
 use Rattle.ring.specs.Holes.{inQuadrant, quadrantCell, times}
-use Rattle.ring.specs.Inner.{isOffset}
-use Rattle.ring.proofs.Around.{offset→, →offset}
 use Rattle.ring.proofs.Descent.{onward, onward→, →onward, Next, next}
+use Rattle.ring.proofs.Offsets.{isOffset, offset→, →offset}
 use Rattle.ring.proofs.Quadrants.{is-quadrant-cell, quadrant-touch}
 use Rattle.ring.proofs.Stairs.{Stairs, first, last}
 

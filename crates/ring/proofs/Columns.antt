@@ -1,16 +1,19 @@
 -- The column rule in the columns 0..a: its one cell in a column, and an ellipse as its columns and its rows.
 use Prim.Native.Nat.{ℕ, _*_, _≤_}
-use mathlib.Core.Path.{_≡_}
-use mathlib.Core.Logic.{inl, inr}
+use mathlib.Core.Path.{_≡_, sym, subst}
+use mathlib.Core.Logic.{_⊎_, inl, inr}
 use mathlib.Core.Bool.{Bool, _&&_, _||_}
 use lib.Dec.{T, leb, leb→le, le→leb}
 use lib.IntN.{pos}
 use Rattle.laws.proofs.Tests.{and-l, and-r, and-i, or-l, or-r, or-e, same}
 use Rattle.ring.specs.Ring.{nearest, ellipseRule}
-use Rattle.ring.specs.Inner.{reach, Least, columns}
-use Rattle.ring.proofs.Least.{least-one}
-use Rattle.ring.proofs.Reach.{at-most}
+use Rattle.ring.proofs.Least.{Least}
+use Rattle.ring.proofs.Reach.{reach, at-most}
 use Rattle.ring.proofs.Nearest.{nearest→, →nearest}
+
+-- the column rule in the columns 0..a
+unfoldable pub columns : ℕ → ℕ → ℕ → ℕ → Bool
+columns a b x y = leb x a && nearest (pos a) (pos b) (pos x) (pos y)
 
 -- what the rule says of an offset
 pub record InColumns (a b x y : ℕ) : Type 0 where
@@ -27,10 +30,6 @@ pub →columns : (a b x y : ℕ) → InColumns a b x y → T (columns a b x y)
 unfolding columns
 →columns a b x y i =
     and-i (leb x a) (nearest (pos a) (pos b) (pos x) (pos y)) (le→leb x a (i .within)) (→nearest a b x (i .within) y (i .least))
-
--- a cell of column x is at its least y
-pub column-at : (a b x y : ℕ) → Least (a * a) (reach a b x) y → (v : ℕ) → T (columns a b x v) → v ≡ y
-column-at a b x y n v t = least-one (a * a) (reach a b x) v y (columns→ a b x v t .least) n
 
 -- an ellipse is its columns, and its rows: the columns of the one with the axes exchanged
 pub columns-and-rows : (a b : ℕ) → 1 ≤ a → 1 ≤ b → (u v : ℕ) → (columns a b u v || columns b a v u) ≡ ellipseRule a b u v
@@ -69,6 +68,21 @@ columns-and-rows a b p q u v = same (columns a b u v || columns b a v u) (leb u 
           | inl z ↦ or-l (columns a b u v) (columns b a v u) (and-i (leb u a) C k z)
           | inr z ↦ or-r (columns a b u v) (columns b a v u) (and-i (leb v b) R l z)
         ]
+
+-- so a cell of it is of the column rule or of the row rule, and such a cell is its
+module _ (a b : ℕ) (h : 1 ≤ a) (k : 1 ≤ b) (x y : ℕ) where
+  pub nearest-in : T (ellipseRule a b x y) → InColumns a b x y ⊎ InColumns b a y x
+  nearest-in t =
+      elim (or-e (columns a b x y) (columns b a y x) (subst T (sym (columns-and-rows a b h k x y)) t)) [
+        | inl u ↦ inl (columns→ a b x y u)
+        | inr u ↦ inr (columns→ b a y x u)
+      ]
+
+  pub in-column : InColumns a b x y → T (ellipseRule a b x y)
+  in-column i = subst T (columns-and-rows a b h k x y) (or-l (columns a b x y) (columns b a y x) (→columns a b x y i))
+
+  pub in-row : InColumns b a y x → T (ellipseRule a b x y)
+  in-row i = subst T (columns-and-rows a b h k x y) (or-r (columns a b x y) (columns b a y x) (→columns b a y x i))
 
 -- its cells are within its axes
 pub ellipse-within : (a b x y : ℕ) → T (ellipseRule a b x y) → (x ≤ a) × (y ≤ b)

@@ -1,6 +1,6 @@
 -- A circle from radius 1 up is the ellipse of equal axes; of radius 0 it is its centre.
 use Prim.Native.Nat.{ℕ, zero, suc, _+_, _-_, _*_, _≤_, _<_}
-use mathlib.Core.Path.{_≡_, refl, sym, subst, _∙_}
+use mathlib.Core.Path.{_≡_, refl, sym, subst, ap, _∙_}
 use mathlib.Core.Logic.{_⊎_, inl, inr, ⊎-elim}
 use mathlib.Core.Bool.{Bool, false, _&&_, _||_}
 use native.Mathlib.Omega.{arith}
@@ -9,14 +9,20 @@ use borrow.Author.Tests.{le-ltb, le-leb}
 use lib.Dec.{T, leb, eqb, leb→le, le→leb, eqb→eq, eqb·suc-zero}
 use lib.IntN.{ℤ, pos, _-ℤ_}
 use lib.Signed.{leZ, ltZ}
+use Rattle.laws.proofs.Apart.{apart-same, apart-zero}
 use Rattle.laws.proofs.Parts.{up, dn}
 use Rattle.laws.proofs.Ints.{parts, le-parts, lt-parts, to-leZ, to-ltZ}
 use Rattle.laws.proofs.Products.{lt-or-ge, sq-le, sq-lt-back}
 use Rattle.laws.proofs.Tests.{and-l, and-r, and-i, or-l, or-r, or-e, same}
-use Rattle.ring.specs.Ring.{inEighth, circleRule, ellipseRule}
-use Rattle.ring.specs.Inner.{edge, reach, Least, isOffset, columns}
-use Rattle.ring.proofs.Around.{offset→, →offset}
-use Rattle.ring.proofs.Columns.{InColumns, columns→, →columns, columns-and-rows, ellipse-within}
+use Rattle.sheet.specs.Chain.{wide, tall}
+use Rattle.sheet.specs.Sheet.{isCell}
+use Rattle.sheet.specs.declared.Cell.{Cell}
+use Rattle.sheet.proofs.Cells.{is-cell→, is-cell-refl}
+use Rattle.ring.specs.Ring.{around, inEighth, circleRule, ellipseRule}
+use Rattle.ring.proofs.Least.{edge, Least}
+use Rattle.ring.proofs.Reach.{reach}
+use Rattle.ring.proofs.Columns.{columns, InColumns, columns→, →columns, columns-and-rows, ellipse-within}
+use Rattle.ring.proofs.Offsets.{isOffset, offset→, →offset}
 
 -- what the rule says of an offset (x, y) with y = j + 1
 record Eighth (r x j : ℕ) : Type 0 where
@@ -176,6 +182,24 @@ circle-is-centre u v = same (isOffset 0 0 u v) (inEighth (pos 0) (pos u) (pos v)
           | inl t ↦ let e = at u v t in →offset 0 0 u v (e .0) (e .1)
           | inr t ↦ let e = at v u t in →offset 0 0 u v (e .1) (e .0)
         ]
+
+pub centre-alone : (c d : Cell) → isCell c d ≡ around c (circleRule 0) d
+unfolding around
+centre-alone c d = same (isCell c d) (circleRule 0 (wide c d) (tall c d)) to from
+  where
+    to : T (isCell c d) → T (circleRule 0 (wide c d) (tall c d))
+    to t =
+        let e = is-cell→ c d t in
+        let x : wide c d ≡ 0 = ap (λ (m : Cell). wide c m) e ∙ apart-same (c .x) in
+        let y : tall c d ≡ 0 = ap (λ (m : Cell). tall c m) e ∙ apart-same (c .y) in
+        subst T (circle-is-centre (wide c d) (tall c d)) (→offset 0 0 (wide c d) (tall c d) x y)
+
+    from : T (circleRule 0 (wide c d) (tall c d)) → T (isCell c d)
+    from t =
+        let e = offset→ 0 0 (wide c d) (tall c d) (subst T (sym (circle-is-centre (wide c d) (tall c d))) t) in
+        let x = apart-zero (c .x) (d .x) (e .0) in
+        let y = apart-zero (c .y) (d .y) (e .1) in
+        subst (λ (m : Cell). T (isCell c m)) (λ i. record { x = x i; y = y i }) (is-cell-refl c)
 
 -- a circle's cells are within its radius
 pub circle-within : (r x y : ℕ) → T (circleRule r x y) → (x ≤ r) × (y ≤ r)

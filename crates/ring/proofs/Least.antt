@@ -3,19 +3,21 @@ use Prim.Native.Nat.{ℕ, zero, suc, _+_, _-_, _*_, _≤_, _<_}
 use mathlib.Core.Path.{_≡_}
 use mathlib.Core.Logic.{inl, inr}
 use native.Mathlib.Omega.{arith}
-use native.Mathlib.Nat.{mul-le-mul, mul-le-mul-left}
+use native.Mathlib.Nat.{mul-le-mul-left}
 use Rattle.laws.proofs.Products.{lt-or-ge, sq-le}
-use Rattle.ring.specs.Inner.{edge, Least}
+
+-- A(2y + 1)²
+unfoldable pub edge : ℕ → ℕ → ℕ
+edge A y = A * ((2 * y + 1) * (2 * y + 1))
+
+-- y is the least number with N < A(2y + 1)²
+pub record Least (A N y : ℕ) : Type 0 where
+  pub low : (k : ℕ) → k < y → edge A k ≤ N
+  pub high : N < edge A y
 
 pub edge-up : (A k y : ℕ) → k ≤ y → edge A k ≤ edge A y
 unfolding edge
 edge-up A k y h = mul-le-mul-left A (sq-le {a = 2 * k + 1} {b = 2 * y + 1} (omega arith))
-
--- the product stays below 2^59
-pub edge-small : (A y : ℕ) → A ≤ 268402689 → y ≤ 16383 → edge A y < 576460752303423488
-unfolding edge
-edge-small A y h l =
-    omega (arith, mul-le-mul {n₁ = A} {m₁ = (2 * y + 1) * (2 * y + 1)} {n₂ = 268402689} {m₂ = 1073676289} h (sq-le {a = 2 * y + 1} {b = 32767} (omega arith)))
 
 -- there is one, at most as great as any number that is not too small
 pub least-is : (A N m : ℕ) → N < edge A m → (y : ℕ) × Least A N y × (y ≤ m)

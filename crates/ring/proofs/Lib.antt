@@ -2,6 +2,7 @@ pub mod Least
 pub mod Reach
 pub mod Nearest
 pub mod Columns
+pub mod Offsets
 pub mod Eighths
 pub mod Intervals
 pub mod Stairs
@@ -10,7 +11,9 @@ pub mod Quadrants
 pub mod Descent
 pub mod Chained
 pub mod Holes
-mod Around
-mod Four
-mod Turns
+mod Outside
+mod Fronts
+mod Tested
+mod Lying
+mod Rowed
 mod Answers

@@ -10,9 +10,8 @@ use Rattle.laws.proofs.Ints.{pos-sub}
 use Rattle.laws.proofs.Products.{sq-le}
 use Rattle.laws.proofs.Tests.{and-l, and-r, and-i}
 use Rattle.ring.specs.Ring.{sq, nearest}
-use Rattle.ring.specs.Inner.{edge, reach, Least}
-use Rattle.ring.proofs.Least.{least-is, least-one, least-falls, least-after, least-zero}
-use Rattle.ring.proofs.Reach.{reach-falls, reach-below}
+use Rattle.ring.proofs.Least.{edge, Least, least-is, least-one, least-falls, least-after, least-zero}
+use Rattle.ring.proofs.Reach.{reach, reach-falls, reach-below}
 
 module _ (a b x : ℕ) (h : x ≤ a) where
   reach-is : pos 4 *ℤ sq (pos b) *ℤ (sq (pos a) -ℤ sq (pos x)) ≡ pos (reach a b x)

@@ -14,7 +14,7 @@ use Rattle.sheet.specs.Sheet.{isCell}
 use Rattle.sheet.specs.declared.Cell.{Cell}
 use Rattle.sheet.proofs.Chains.{touching}
 use Rattle.ring.specs.Holes.{onSide, offBy, inQuadrant, quadrantCell}
-use Rattle.ring.specs.Inner.{isOffset}
+use Rattle.ring.proofs.Offsets.{isOffset}
 
 -- one axis: the place n from z on one side, and how far from it
 module _ (z : ℤ) where

@@ -1,11 +1,15 @@
 -- 4b²(a² − x²), the number that the nearest y of column x is measured by.
-use Prim.Native.Nat.{ℕ, _+_, _*_, _≤_, _<_}
+use Prim.Native.Nat.{ℕ, _+_, _-_, _*_, _≤_, _<_}
 use mathlib.Core.Path.{_≡_}
 use mathlib.Core.Logic.{inl, inr}
 use native.Mathlib.Omega.{arith}
-use native.Mathlib.Nat.{mul-le-mul, mul-le-mul-left, mul-sub, sub-le-sub-left, sub-le}
+use native.Mathlib.Nat.{mul-le-mul-left, mul-sub, sub-le-sub-left, sub-le}
 use Rattle.laws.proofs.Products.{lt-or-ge, sq-le}
-use Rattle.ring.specs.Inner.{edge, reach, Least}
+use Rattle.ring.proofs.Least.{edge, Least}
+
+-- 4b²(a² − x²), where x ≤ a
+unfoldable pub reach : ℕ → ℕ → ℕ → ℕ
+reach a b x = 4 * (b * b) * (a * a - x * x)
 
 pub reach-falls : (a b x z : ℕ) → x ≤ z → reach a b z ≤ reach a b x
 unfolding reach
@@ -19,11 +23,6 @@ reach-most a b x = mul-le-mul-left (4 * (b * b)) (sub-le (a * a) (x * x))
 pub reach-sum : (a b x : ℕ) → x ≤ a → reach a b x + 4 * (b * b) * (x * x) ≡ 4 * (b * b) * (a * a)
 unfolding reach
 reach-sum a b x h = omega (arith, mul-sub (4 * (b * b)) (a * a) (x * x), mul-le-mul-left (4 * (b * b)) (sq-le h))
-
--- the product stays below 2^59
-pub reach-small : (a b x : ℕ) → a ≤ 16383 → b ≤ 16383 → reach a b x < 576460752303423488
-reach-small a b x h k =
-    omega (arith, reach-most a b x, mul-le-mul {n₁ = 4 * (b * b)} {m₁ = a * a} {n₂ = 1073610756} {m₂ = 268402689} (omega (arith, sq-le k)) (sq-le h))
 
 -- so the nearest y is at most b
 pub reach-below : (a b x : ℕ) → 1 ≤ a → reach a b x < edge (a * a) b

@@ -1,128 +1,109 @@
 // Circles and ellipses.
 ghost use mathlib.Core.Path.{_≡_};
-ghost use mathlib.Core.Bool.{_&&_};
-ghost use Prim.Native.Nat.{_≤_, _<_};
+ghost use Prim.Native.Nat.{_-_, _≤_, _<_, min, max};
 ghost use Rattle.sheet.specs.Sheet.{paint};
 ghost use Rattle.sheet.specs.Reply.{told};
 ghost use Rattle.sheet.specs.Drawing.{Draws};
-ghost use Rattle.sheet.specs.Inner.{unmovedCell, Disjoint};
+ghost use Rattle.sheet.specs.Inner.{unmovedCell, Sheet};
 ghost use Rattle.ring.specs.Ring.{around, circleRule, ellipseRule};
 ghost use Rattle.ring.specs.Draw.{circleDrawing, ellipseDrawing};
-ghost use Rattle.ring.specs.Inner.{edge, Least, Centred, isOffset, turned, columns};
+ghost use Rattle.ring.specs.Inner.{Centred, Axis, Placing};
+
+mod front;
+mod ink;
+mod rows;
+
+use rows::rows_about;
+use rows::rows_below;
 use sheet::Cell;
 use sheet::Refusal;
 use sheet::Reply;
 use sheet::Shape;
 use sheet::Spot;
 
-// The least y with n < aa(2y + 1)², found by steps down from a y that is no less.
-fn stepped_down(aa: u64, n: u64, from: u64) -> u64
-    requires { ⌜ (aa ≤ 268402689) × (from ≤ 16383) × (n < edge aa from) ⌝ }
-    ensures { λ r. ⌜ Least aa n r × (r ≤ from) ⌝ }
-{
-    let mut y = from;
-    while 0 < y {
-        let p = y - 1;
-        let k = 2 * p + 1;
-        if aa * (k * k) <= n {
-            return y;
-        }
-        y = p;
-    }
-    y
+// A ring as it lies on a sheet: the middle, on the moved plane, and the semi-axes; how far from the middle its columns on the sheet are,
+// from the least to before past; and whether all its columns are on it.
+struct Ring {
+    x: usize,
+    y: usize,
+    a: usize,
+    b: usize,
+    least: usize,
+    past: usize,
+    whole: bool,
 }
 
-// Inks the four cells (±x, ±y) from the centre.
-fn ink_four(sheet: &mut [u8], shape: Shape, ink: u8, centre: Spot, x: u32, y: u32)
-    requires { ⌜ Centred centre × Disjoint shape × (x ≤ 16383) × (y ≤ 16383) ⌝ }
-    ensures { λ r. ⌜ now (sheet .exit) ≡ paint shape ink (around (unmovedCell centre) (isOffset x y)) (now (sheet .entry)) ⌝ }
+// The larger, the smaller; m less n, or 0 where that is below 0.
+fn larger(m: usize, n: usize) -> usize
+    ensures { λ r. ⌜ r ≡ max m n ⌝ }
 {
-    let left = centre.x - x;
-    let right = centre.x + x;
-    let above = centre.y - y;
-    let below = centre.y + y;
-    sheet::ink_at(sheet, shape, ink, Spot { x: left, y: above });
-    sheet::ink_at(sheet, shape, ink, Spot { x: right, y: above });
-    sheet::ink_at(sheet, shape, ink, Spot { x: left, y: below });
-    sheet::ink_at(sheet, shape, ink, Spot { x: right, y: below });
+    if m < n { n } else { m }
 }
 
-// Inks them where they are wanted.
-fn ink_wanted(sheet: &mut [u8], shape: Shape, ink: u8, centre: Spot, wanted: bool, x: u32, y: u32)
-    requires { ⌜ Centred centre × Disjoint shape × (x ≤ 16383) × (y ≤ 16383) ⌝ }
-    ensures { λ r. ⌜ now (sheet .exit)
-        ≡ paint shape ink (around (unmovedCell centre) (λ u v. wanted && isOffset x y u v)) (now (sheet .entry)) ⌝ }
+fn smaller(m: usize, n: usize) -> usize
+    ensures { λ r. ⌜ r ≡ min m n ⌝ }
 {
-    if wanted {
-        ink_four(sheet, shape, ink, centre, x, y);
-    }
+    if m < n { m } else { n }
 }
 
-// Inks the cells (±x, ±y) from the centre where straight holds, and (±y, ±x) where turn holds.
-fn ink_turned(
-    sheet: &mut [u8],
-    shape: Shape,
-    ink: u8,
-    centre: Spot,
-    straight: bool,
-    turn: bool,
-    x: u64,
-    y: u64,
-)
-    requires { ⌜ Centred centre × Disjoint shape × (x ≤ 16383) × (y ≤ 16383) ⌝ }
-    ensures { λ r. ⌜ now (sheet .exit)
-        ≡ paint shape ink (around (unmovedCell centre) (turned straight turn (isOffset x y))) (now (sheet .entry)) ⌝ }
+fn less(m: usize, n: usize) -> usize
+    ensures { λ r. ⌜ r ≡ m - n ⌝ }
 {
-    let along = x as u32;
-    let across = y as u32;
-    ink_wanted(sheet, shape, ink, centre, straight, along, across);
-    ink_wanted(sheet, shape, ink, centre, turn, across, along);
+    if n < m { m - n } else { 0 }
 }
 
-// Inks the columns of an ellipse where straight holds, and the rows of the one with its axes exchanged where turn holds.
-fn sweep(
-    sheet: &mut [u8],
-    shape: Shape,
-    ink: u8,
-    centre: Spot,
-    straight: bool,
-    turn: bool,
-    a: u64,
-    b: u64,
-)
-    requires { ⌜ Centred centre × Disjoint shape × (1 ≤ a) × (a ≤ 16383) × (b ≤ 16383) ⌝ }
-    ensures { λ r. ⌜ now (sheet .exit)
-        ≡ paint shape ink (around (unmovedCell centre) (turned straight turn (columns a b))) (now (sheet .entry)) ⌝ }
+// How the ring lies on the sheet.
+fn placed(shape: Shape, centre: Spot, a: usize, b: usize) -> Ring
+    requires { ⌜ Centred centre × (1 ≤ shape .width) × (shape .width ≤ 4096) × Axis a × Axis b ⌝ }
+    ensures { λ r. ⌜ Placing shape centre a b r ⌝ }
 {
-    let aa = a * a;
-    let bb = b * b;
-    let mut y = b;
-    let mut x: u64 = 0;
-    while x <= a {
-        y = stepped_down(aa, 4 * bb * (aa - x * x), y);
-        ink_turned(sheet, shape, ink, centre, straight, turn, x, y);
-        x += 1;
+    let x = centre.x as usize;
+    let y = centre.y as usize;
+    let width = shape.width as usize;
+    let last = 65535 + width;
+    Ring {
+        x,
+        y,
+        a,
+        b,
+        least: larger(less(65536, x), less(x, last)),
+        past: smaller(a, larger(less(x, 65536), less(last, x))) + 1,
+        whole: (65536 + a <= x) & (x + a <= last),
     }
 }
 
-// Inks the ellipse about the centre.
-fn ellipse_on(sheet: &mut [u8], shape: Shape, ink: u8, centre: Spot, a: u64, b: u64)
-    requires { ⌜ Centred centre × Disjoint shape × (1 ≤ a) × (a ≤ 16383) × (1 ≤ b) × (b ≤ 16383) ⌝ }
-    ensures { λ r. ⌜ now (sheet .exit) ≡ paint shape ink (around (unmovedCell centre) (ellipseRule a b)) (now (sheet .entry)) ⌝ }
+// Inks the ellipse about the centre: its rows on the sheet.
+fn ellipse_on(sheet: &mut [u8], shape: Shape, ink: u8, centre: Spot, a: usize, b: usize)
+    requires { ⌜ Sheet shape (now sheet) × Centred centre × Axis a × Axis b ⌝ }
+    ensures { λ _. ⌜ now (sheet .exit) ≡ paint shape ink (around (unmovedCell centre) (ellipseRule a b)) (now (sheet .entry)) ⌝ }
 {
-    sweep(sheet, shape, ink, centre, true, false, a, b);
-    sweep(sheet, shape, ink, centre, false, true, b, a);
+    let ring = placed(shape, centre, a, b);
+    let y = ring.y;
+    let height = shape.height as usize;
+    let from = less(y - b, 65536);
+    let to = smaller(less(y + b + 1, 65536), height);
+    if a < ring.least {
+        return;
+    }
+    if to <= from {
+        return;
+    }
+    if y < 65536 {
+        rows_below(sheet, shape, ink, ring, to);
+        return;
+    }
+    rows_about(sheet, shape, ink, ring, from, to);
 }
 
-// Inks the circle about the centre: from radius 1 up it is the ellipse of equal axes, whose rows are its columns turned.
-fn circle_on(sheet: &mut [u8], shape: Shape, ink: u8, centre: Spot, r: u64)
-    requires { ⌜ Centred centre × Disjoint shape × (r ≤ 16383) ⌝ }
-    ensures { λ d. ⌜ now (sheet .exit) ≡ paint shape ink (around (unmovedCell centre) (circleRule r)) (now (sheet .entry)) ⌝ }
+// Inks the circle about the centre: from radius 1 up it is the ellipse of equal axes.
+fn circle_on(sheet: &mut [u8], shape: Shape, ink: u8, centre: Spot, r: usize)
+    requires { ⌜ Sheet shape (now sheet) × Centred centre × (r ≤ 16383) ⌝ }
+    ensures { λ _. ⌜ now (sheet .exit) ≡ paint shape ink (around (unmovedCell centre) (circleRule r)) (now (sheet .entry)) ⌝ }
 {
     if r == 0 {
-        ink_four(sheet, shape, ink, centre, 0, 0);
+        sheet::ink_at(sheet, shape, ink, centre);
     } else {
-        sweep(sheet, shape, ink, centre, true, true, r, r);
+        ellipse_on(sheet, shape, ink, centre, r, r);
     }
 }
 
@@ -140,7 +121,7 @@ pub fn draw_circle(sheet: &mut [u8], shape: Shape, ink: u8, centre: Cell, r: u32
     if !sheet::is_radius(r) {
         return Reply::Refused(Refusal::Radius);
     }
-    circle_on(sheet, shape, ink, sheet::lift_cell(centre), r as u64);
+    circle_on(sheet, shape, ink, sheet::lift_cell(centre), r as usize);
     Reply::Done
 }
 
@@ -163,8 +144,8 @@ pub fn draw_ellipse(sheet: &mut [u8], shape: Shape, ink: u8, centre: Cell, a: u3
         shape,
         ink,
         sheet::lift_cell(centre),
-        a as u64,
-        b as u64,
+        a as usize,
+        b as usize,
     );
     Reply::Done
 }

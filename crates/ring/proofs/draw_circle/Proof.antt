@@ -9,7 +9,7 @@ use Rattle.sheet.specs.Inner.{fits}
 use Rattle.sheet.specs.declared.Refusal.the-variants.{Coordinate, Radius}
 use Rattle.sheet.proofs.Draws.{refuses}
 use Rattle.sheet.proofs.Lent.{if-sheet, is-sheet, sheet-refused}
-use Rattle.sheet.proofs.Limits.{fits-disjoint}
+use Rattle.sheet.proofs.Limits.{fits-sheet}
 use Rattle.ring.specs.Draw.{ringAnswer}
 use Rattle.ring.proofs.Answers.{ring-done, centred, radius-is}
 use borrow.Author.Needs.{needs}
@@ -57,8 +57,8 @@ circle-on-requires c κs =
     let tested = c .before .before in
     let limited = tested .before .before in
     let a = limited .before .before .before .before .before .before .args in (
+      fits-sheet _ _ (fitted (limited .before .before)),
       centred (a .centre) (c .lift-cell .result) (inside limited) (c .lift-cell .ensures),
-      fits-disjoint _ _ (fitted (limited .before .before)),
       radius-is (a .r) (yes _ _ (tested .before .is-radius .ensures) (tested .if3 .left)),
     )
 

@@ -9,7 +9,7 @@ use Rattle.sheet.specs.Inner.{fits}
 use Rattle.sheet.specs.declared.Refusal.the-variants.{Coordinate, Radius}
 use Rattle.sheet.proofs.Draws.{refuses}
 use Rattle.sheet.proofs.Lent.{if-sheet, is-sheet, sheet-refused}
-use Rattle.sheet.proofs.Limits.{fits-disjoint}
+use Rattle.sheet.proofs.Limits.{fits-sheet}
 use Rattle.ring.specs.Draw.{ringAnswer}
 use Rattle.ring.proofs.Answers.{ring-done, centred, semi-axes-are}
 use borrow.Author.Needs.{needs}
@@ -66,12 +66,10 @@ ellipse-on-requires c κs =
     let limited = axes .before .before .before in
     let a = limited .before .before .before .before .before .before .args in
     let l = semi-axes-are (a .a) (a .b) (yes _ _ (tested (axes .before)) (axes .if3 .left)) in (
+      fits-sheet _ _ (fitted (limited .before .before)),
       centred (a .centre) (c .lift-cell .result) (inside limited) (c .lift-cell .ensures),
-      fits-disjoint _ _ (fitted (limited .before .before)),
       l .0,
       l .1,
-      l .2,
-      l .3,
     )
 
 same-length : tie.Need-same-length

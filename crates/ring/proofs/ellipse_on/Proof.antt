@@ -1,37 +1,132 @@
--- `ring::ellipse_on` meets its contract: columns, then rows.
-use mathlib.Core.Path.{ap, _∙_}
-use mathlib.Core.Bool.{Bool, true, false, _||_, or-false}
+-- `ring::ellipse_on` meets its contract.
+use Rattle.ring.proofs.Rowed.{rows-are, no-column, no-row}
 use native.Mathlib.Omega.{arith}
-use denote.Ref.{now}
-use Rattle.sheet.specs.Inner.{unmovedCell}
-use Rattle.ring.specs.Ring.{ellipseRule}
-use Rattle.ring.specs.Inner.{turned, columns}
-use Rattle.ring.proofs.Around.{around-then}
-use Rattle.ring.proofs.Columns.{columns-and-rows}
+use mathlib.Core.Path.{_≡_, refl, ap, _∙_}
+use Prim.Native.Nat.{ℕ, _+_, _-_, _≤_, min}
 use borrow.Author.Needs.{needs}
 use Rattle.ring.proofs.ellipse_on.Statement.{statement}
 use Rattle.ring.proofs.ellipse_on.Tie as tie
 
-sweep-requires : tie.Need-sweep-requires
-sweep-requires c κs = search needs
+-- where the rows on the sheet end
+to-is : (c : tie.After-smaller) →
+    let a = c .before .before .before .before .before .before .args in
+    c .smaller .result ≡ min (c .before .before .before .before .placed .result .y + a .b + 1 - 65536) (a .shape .height)
+to-is c = c .smaller .ensures ∙ ap (λ (n : ℕ). min n (c .before .before .before .before .before .before .args .shape .height)) (c .before .less2 .ensures)
 
-sweep-requires-2 : tie.Need-sweep-requires-2
-sweep-requires-2 c κs = search needs
+placed-requires : tie.Need-placed-requires
+placed-requires c κs = search needs
+
+cast-height : tie.Need-cast-height
+cast-height c = search needs
+
+sub-less : tie.Need-sub-less
+sub-less c = search needs
+
+less-requires : tie.Need-less-requires
+less-requires c κs = search needs
+
+add-less : tie.Need-add-less
+add-less c = search needs
+
+add-less-2 : tie.Need-add-less-2
+add-less-2 c = search needs
+
+less-requires-2 : tie.Need-less-requires-2
+less-requires-2 c κs = search needs
+
+smaller-requires : tie.Need-smaller-requires
+smaller-requires c κs = search needs
+
+returns : tie.Need-returns
+returns c =
+    let cut = c .before .before in
+    let at-placed = cut .before .before .before .before in
+    let a = at-placed .before .before .args in
+    no-column (a .shape) (a .ink) (a .centre) (a .a) (a .b) _ (at-placed .placed .ensures) _ _ refl (c .if1 .taken)
+
+returns-2 : tie.Need-returns-2
+returns-2 c =
+    let cut = c .before .before .before in
+    let at-placed = cut .before .before .before .before in
+    let a = at-placed .before .before .args in
+    no-row (a .shape) (a .ink) (a .centre) (a .a) (a .b) _ (at-placed .placed .ensures) _ _ _ _
+    (cut .before .before .less .ensures) (to-is cut) refl (c .if2 .taken)
+
+rows-below-requires : tie.Need-rows-below-requires
+rows-below-requires c κs =
+    let below = c .before .before in
+    let tested = below .before in
+    let cut = tested .before .before in
+    let at-placed = cut .before .before .before .before in
+    let entry = at-placed .before .before in
+    let N = at-placed .placed .ensures in
+    let e = to-is cut in
+    let h : cut .smaller .result + 65536 ≤ at-placed .placed .result .y + entry .args .b + 1 = omega (arith, below .if2 .left) in (
+      (entry .pre .0, N .lies (omega (arith, tested .if1 .left, N .of-a)), omega arith),
+      (c .before .if3 .taken, omega (arith, below .if2 .left), omega (arith, N .of-b)),
+    )
 
 same-length : tie.Need-same-length
 same-length c = search needs
 
-returns : tie.Need-returns
-unfolding turned
-returns c =
-    let start = c .before .before .before .before .before .before .before .before .before in
-    let a = start .args in
-    around-then (a .shape) (a .ink) (unmovedCell (a .centre)) (turned true false (columns (a .a) (a .b))) (turned false true (columns (a .b) (a .a))) (ellipseRule (a .a) (a .b))
-    (now (a .sheet)) _ _
-    (λ u v.
-    ap (λ (t : Bool). t || columns (a .b) (a .a) v u) (or-false (columns (a .a) (a .b) u v))
-    ∙ columns-and-rows (a .a) (a .b) (omega (arith, start .pre)) (omega (arith, start .pre)) u v)
-    (c .before .before .before .before .before .before .sweep .ensures) (c .before .before .sweep2 .ensures)
+returns-3 : tie.Need-returns-3
+returns-3 c =
+    let called = c .before .before in
+    let cut = called .before .before .before .before .before .before in
+    let at-placed = cut .before .before .before .before in
+    let a = at-placed .before .before .args in
+    rows-are (a .shape) (a .ink) (a .centre) (a .a) (a .b) _ (at-placed .placed .ensures) _ _ 0 _
+    (omega (arith, called .before .before .if3 .taken)) (to-is cut) (called .rows-below .ensures)
+
+rows-about-requires : tie.Need-rows-about-requires
+rows-about-requires c κs =
+    let below = c .before .before in
+    let tested = below .before in
+    let cut = tested .before .before in
+    let at-placed = cut .before .before .before .before in
+    let entry = at-placed .before .before in
+    let N = at-placed .placed .ensures in
+    let y = at-placed .placed .result .y in
+    let b = entry .args .b in
+    let from = cut .before .before .less .result in
+    let e = to-is cut in
+    let f = cut .before .before .less .ensures in
+    let h : cut .smaller .result + 65536 ≤ y + b + 1 = omega (arith, below .if2 .left) in
+    let m : from + 65536 ≤ y = omega (arith, c .before .if3 .left) in
+    let n : y ≤ from + 65536 + b = omega arith in (
+      (entry .pre .0, N .lies (omega (arith, tested .if1 .left, N .of-a)), omega (arith, below .if2 .left), omega arith),
+      (m, omega (arith, N .of-b), omega (arith, N .of-b)),
+    )
+
+same-length-2 : tie.Need-same-length-2
+same-length-2 c = search needs
+
+returns-4 : tie.Need-returns-4
+returns-4 c =
+    let called = c .before .before in
+    let cut = called .before .before .before .before .before .before in
+    let at-placed = cut .before .before .before .before in
+    let a = at-placed .before .before .args in
+    rows-are (a .shape) (a .ink) (a .centre) (a .a) (a .b) _ (at-placed .placed .ensures) _ _ _ _
+    (cut .before .before .less .ensures) (to-is cut) (called .rows-about .ensures)
 
 pub ellipse-on-spec : {M : Type 1} → statement M
-ellipse-on-spec = tie.close (tie.spec sweep-requires sweep-requires-2 same-length returns)
+ellipse-on-spec =
+    tie.close
+    (tie.spec
+    placed-requires
+    cast-height
+    sub-less
+    less-requires
+    add-less
+    add-less-2
+    less-requires-2
+    smaller-requires
+    returns
+    returns-2
+    rows-below-requires
+    same-length
+    returns-3
+    rows-about-requires
+    same-length-2
+    returns-4)

@@ -1,0 +1,65 @@
+-- How a ring lies on a sheet: the columns that may be its, and the rows.
+use Prim.Native.Nat.{ℕ, _+_, _-_, _≤_, _<_, min, max}
+use mathlib.Core.Path.{_≡_, refl, sym, _∙_}
+use mathlib.Core.Logic.{inl, inr}
+use mathlib.Core.Bool.{Bool, _&&_}
+use native.Mathlib.Omega.{arith}
+use borrow.Author.Tests.{leb-true}
+use lib.Dec.{leb}
+use Rattle.laws.proofs.Products.{lt-or-ge}
+use Rattle.laws.proofs.Tests.{halves}
+use Rattle.sheet.specs.declared.Shape.{Shape}
+use Rattle.sheet.specs.declared.Spot.{Spot}
+use Rattle.ring.specs.Inner.{Centred, Axis, off, Placing}
+
+-- the least and the greatest distance of the sheet's columns
+module _ (m width i : ℕ) (h : i < width) where
+  near-is : max (65536 - m) (m - (65535 + width)) ≤ off m i
+  near-is =
+      let p : 65536 - m ≤ off m i = omega arith in
+      let q : m - (65535 + width) ≤ off m i = omega arith in
+      omega arith
+
+  far-is : off m i ≤ max (m - 65536) (65535 + width - m)
+  far-is =
+      elim (lt-or-ge m (i + 65536)) [
+        | inl l ↦ let e : off m i ≤ 65535 + width - m = omega arith in omega arith
+        | inr l ↦ let e : off m i ≤ m - 65536 = omega arith in omega arith
+      ]
+
+module _ (k : Shape) (p : Spot) (a b l r : ℕ) (w : Bool) (C : Centred p) (n : 1 ≤ k .width)
+    (pa : Axis a) (pb : Axis b) (g : w ≡ (leb (65536 + a) (p .x) && leb (p .x + a) (65535 + k .width))) where
+  lying : (f : ℕ) → ((i : ℕ) → i < k .width → l ≤ off (p .x) i) → ((i : ℕ) → i < k .width → off (p .x) i ≤ f) → r ≡ min a f
+      → Placing k p a b (record { x = p .x; y = p .y; a = a; b = b; least = l; past = r + 1; whole = w })
+  lying f near far e =
+      record {
+        at-x = refl;
+        at-y = refl;
+        of-a = refl;
+        of-b = refl;
+        lies = λ o. record {
+          some-a = pa .0;
+          most-a = pa .1;
+          some-b = pb .0;
+          most-b = pb .1;
+          column = C .column;
+          row = C .row;
+          near = near;
+          far = λ i h. elim (lt-or-ge a (off (p .x) i)) [
+            | inl m ↦ inr m
+            | inr m ↦ inl (omega (arith, far i h))
+          ];
+          order = o;
+          some = omega (arith, near 0 n, far 0 n);
+          most = omega arith;
+          whole = λ t.
+              let q = halves (leb (65536 + a) (p .x)) (leb (p .x + a) (65535 + k .width)) (sym g ∙ t) in
+              (leb-true (65536 + a) (p .x) (q .0), omega (arith, leb-true (p .x + a) (65535 + k .width) (q .1)));
+        };
+        misses = λ o i h. omega (arith, near i h);
+      }
+
+  pub placing : l ≡ max (65536 - p .x) (p .x - (65535 + k .width)) → r ≡ min a (max (p .x - 65536) (65535 + k .width - p .x))
+      → Placing k p a b (record { x = p .x; y = p .y; a = a; b = b; least = l; past = r + 1; whole = w })
+  placing e f =
+      lying (max (p .x - 65536) (65535 + k .width - p .x)) (λ i h. rw e (near-is (p .x) (k .width) i h)) (far-is (p .x) (k .width)) f
