@@ -4,11 +4,11 @@ use std::ffi::c_void;
 extern "C" {
     fn mmap(at: *mut c_void, length: usize, allow: i32, flags: i32, file: i32, offset: i64) -> *mut c_void;
     fn munmap(at: *mut c_void, length: usize) -> i32;
-    fn mprotect(at: *mut c_void, length: usize, allow: i32) -> i32;
+    pub(crate) fn mprotect(at: *mut c_void, length: usize, allow: i32) -> i32;
 }
 
-const NOTHING: i32 = 0;
-const READ_AND_WRITE: i32 = 1 | 2;
+pub(crate) const NOTHING: i32 = 0;
+pub(crate) const READ_AND_WRITE: i32 = 1 | 2;
 const PRIVATE_AND_EMPTY: i32 = 0x02 | 0x20;
 
 /// No page of the machines at hand is larger.

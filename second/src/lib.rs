@@ -15,3 +15,4 @@ pub mod run;
 pub mod teeth;
 mod teeth_fill;
 pub mod territory;
+pub mod watched;

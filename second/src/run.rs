@@ -114,7 +114,7 @@ impl Room {
 }
 
 /// Where the library's numbers first differ from those of the rules.
-fn same<T: PartialEq + Display>(name: &str, found: &[T], expected: &[T]) -> Result<(), String> {
+pub fn same<T: PartialEq + Display>(name: &str, found: &[T], expected: &[T]) -> Result<(), String> {
     if found == expected {
         return Ok(());
     }
@@ -175,7 +175,7 @@ impl Outcome {
     }
 }
 
-fn widened(figure: &Cells) -> Figure {
+pub fn widened(figure: &Cells) -> Figure {
     match *figure {
         Cells::Line(ends) => {
             let [x0, y0, x1, y1] = ends.map(i64::from);
