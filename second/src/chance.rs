@@ -181,9 +181,27 @@ pub fn line(random: &mut Random, size: Size) -> Cells {
     Cells::Line([x0, y0, x1, y1])
 }
 
+/// A centre anywhere within the limits, and at them.
+fn far_centre(random: &mut Random) -> [i32; 2] {
+    [(); 2].map(|()| match random.number() % 16 {
+        0 => -16_384,
+        1 => 16_383,
+        _ => random.within(-16_384, 16_383) as i32,
+    })
+}
+
+/// The centre of a ring, and whether its size is to be what leads through the sheet.
+fn centre(random: &mut Random, size: Size) -> ([i32; 2], bool) {
+    match random.number() % 4 {
+        0 => (far_centre(random), true),
+        1 => (point(random, size), true),
+        _ => (point(random, size), false),
+    }
+}
+
 pub fn circle(random: &mut Random, size: Size) -> Cells {
-    let centre = point(random, size);
-    if random.once_in(2) {
+    let (centre, through) = centre(random, size);
+    if !through {
         return Cells::Circle(centre, radius(random, size.width));
     }
     let [x, y] = to_the_sheet(random, size, centre);
@@ -194,8 +212,8 @@ pub fn ellipse(random: &mut Random, size: Size) -> Cells {
     if random.once_in(3) {
         return flat_ellipse(random, size);
     }
-    let centre = point(random, size);
-    if random.once_in(2) {
+    let (centre, through) = centre(random, size);
+    if !through {
         return Cells::Ellipse(centre, radius(random, size.width), radius(random, size.height));
     }
     // the semi-axes for which x / a = part and y / b is what is left

@@ -1,7 +1,7 @@
 //! Second programs that are wrong on purpose: a comparison that is worth anything catches each.
 use crate::rule::{
-    asked, bad_fields, cells_from, in_column, line_cells, no_sheet, place, refusal, Bad, Cell, Figure, Rules, Shape,
-    Sheet, Told,
+    asked, bad_fields, cells_from, in_column, line_cells, no_sheet, on_circle, on_ellipse, place, refusal, Bad, Cell,
+    Figure, Rules, Shape, Sheet, Told,
 };
 use crate::teeth_fill::wrong_fills;
 
@@ -26,6 +26,8 @@ fn wrong_figures() -> Vec<(&'static str, Rules)> {
         ("an ellipse has no row rule", Rules { on_ellipse: in_column, ..right }),
         ("a flat ellipse has holes, by the slope conditions of the base", Rules { on_ellipse: sloped, ..right }),
         ("an ellipse's cells are nearest in column and row", Rules { on_ellipse: nearest_in_both, ..right }),
+        ("a circle above 8,191 is a cell too large", Rules { on_circle: large_circle, ..right }),
+        ("an ellipse above 8,191 is a cell too wide", Rules { on_ellipse: large_ellipse, ..right }),
         ("a curve's division drops the fraction", Rules { floor: |n, d| n / d, ..right }),
         ("a cell in metres drops the fraction", Rules { cell: dropped, ..right }),
         ("a cell in metres is the nearest", Rules { cell: nearest, ..right }),
@@ -105,6 +107,14 @@ fn sloped(a: i64, b: i64, (x, y): Cell) -> bool {
 
 fn nearest_in_both(a: i64, b: i64, (x, y): Cell) -> bool {
     in_column(a, b, (x, y)) && in_column(b, a, (y, x))
+}
+
+fn large_circle(r: i64, cell: Cell) -> bool {
+    on_circle(r + i64::from(r > 8191), cell)
+}
+
+fn large_ellipse(a: i64, b: i64, cell: Cell) -> bool {
+    on_ellipse(a + i64::from(a > 8191), b, cell)
 }
 
 fn dropped(q: f64) -> Option<i64> {
