@@ -1,4 +1,5 @@
 /* speed.c: the proved library beside its rivals: the same figures in one run, best of several rounds, as a table. */
+#include <math.h>
 #include <stdio.h>
 #include <stdlib.h>
 #include <string.h>
@@ -7,11 +8,11 @@
 #include "pistonwool.h"
 #include "speed.h"
 
-/* the ways that ratios are told to, after ours: C and, where it is there, OpenCV */
+/* the ways that ratios are told to, after ours: C, C by rows and, where it is there, OpenCV */
 #ifdef OPENCV
-enum { BESIDE = 2 };
+enum { BESIDE = 3 };
 #else
-enum { BESIDE = 1 };
+enum { BESIDE = 2 };
 #endif
 enum { ROUNDS = 15, MOST = 20000, CELLS = 300000, RECORDS = 200, FAR = 500, COPIED = 1 << 26 };
 
@@ -119,6 +120,23 @@ static struct figure far_line(int32_t side) {
     return f;
 }
 
+static int in_limits(int32_t coordinate) {
+    return coordinate >= -16384 && coordinate <= 16383;
+}
+
+/* a ring that crosses the sheet, its centre up to its semi-axes away: a cell of the sheet lies on it at a random angle */
+static struct figure far_ring(enum kind kind, int32_t side) {
+    struct figure f = {.kind = kind};
+    do {
+        double angle = between(0, 65535) * (2 * acos(-1) / 65536);
+        f.a = (uint32_t)between(1000, 16383);
+        f.b = kind == CIRCLE ? f.a : (uint32_t)between(1000, 16383);
+        f.x0 = between(0, side - 1) + (int32_t)lround(f.a * cos(angle));
+        f.y0 = between(0, side - 1) + (int32_t)lround(f.b * sin(angle));
+    } while (!in_limits(f.x0) || !in_limits(f.y0));
+    return f;
+}
+
 /* how many cells the figure has on the sheet, which is left clear */
 static size_t cells_of(struct sheet *s, const struct figure *f) {
     size_t len = length(s), cells = 0;
@@ -177,7 +195,7 @@ static void told(double ns) {
         printf(" | %.2f", ns);
 }
 
-/* one row of the table: each way's nanoseconds by the unit, and ours as a part of C's and OpenCV's */
+/* one row of the table: each way's nanoseconds by the unit, and ours as a part of the two in C and OpenCV's */
 static void row(const char *name, const char *unit, struct sheet *s, struct way *ways, size_t n,
                 const struct figure *figures, size_t units) {
     for (size_t w = 0; w < n; w++)
@@ -202,6 +220,23 @@ static void row(const char *name, const char *unit, struct sheet *s, struct way 
 
 static struct figure figures[MOST];
 
+/* stops where the library and C by rows do not mark the same cells */
+static void same_rings(struct sheet *s, const struct figure *rings, size_t count) {
+    struct sheet other = *s;
+    other.bytes = s->fresh;
+    for (size_t i = 0; i < count; i++) {
+        memset(s->bytes, 0, length(s));
+        memset(other.bytes, 0, length(s));
+        pistonwool(s, &rings[i]);
+        by_rows(&other, &rings[i]);
+        if (memcmp(s->bytes, other.bytes, length(s)) != 0) {
+            fprintf(stderr, "speed: C by rows marks other cells of the ring %u by %u about (%d, %d)\n", rings[i].a, rings[i].b,
+                    rings[i].x0, rings[i].y0);
+            exit(1);
+        }
+    }
+}
+
 /* figures of one kind */
 static void kind_row(enum kind kind, struct sheet *s, struct way *ways, size_t n) {
     static const char *const names[] = {
@@ -211,6 +246,8 @@ static void kind_row(enum kind kind, struct sheet *s, struct way *ways, size_t n
         figures[count] = some(kind, (int32_t)s->side);
         cells += cells_of(s, &figures[count++]);
     }
+    if (kind == CIRCLE || kind == ELLIPSE)
+        same_rings(s, figures, count);
     for (size_t w = 0; w < n; w++)
         ways[w].figures = count;
     row(names[kind], "cell", s, ways, n, figures, cells);
@@ -253,6 +290,18 @@ static void fill_rows(struct sheet *s, struct way *ways, size_t n) {
         fill_row(ground, s, ways, n);
 }
 
+static void far_rows(struct sheet *s, struct way *ways, size_t n) {
+    for (size_t w = 0; w < n; w++)
+        ways[w].figures = FAR;
+    for (size_t i = 0; i < FAR; i++)
+        figures[i] = far_line((int32_t)s->side);
+    row("lines with far ends", "line", s, ways, n, figures, FAR);
+    for (size_t i = 0; i < FAR; i++)
+        figures[i] = far_ring(i % 2 ? ELLIPSE : CIRCLE, (int32_t)s->side);
+    same_rings(s, figures, FAR);
+    row("rings with far centres", "ring", s, ways, n, figures, FAR);
+}
+
 static void rows(struct sheet *s, struct way *ways, size_t n) {
     if (s->pitch != s->side) {
         kind_row(LINE, s, ways, n);
@@ -261,11 +310,7 @@ static void rows(struct sheet *s, struct way *ways, size_t n) {
     }
     for (enum kind kind = LINE; kind <= LISTING; kind++)
         kind_row(kind, s, ways, n);
-    for (size_t i = 0; i < FAR; i++)
-        figures[i] = far_line((int32_t)s->side);
-    for (size_t w = 0; w < n; w++)
-        ways[w].figures = FAR;
-    row("lines with far ends", "line", s, ways, n, figures, FAR);
+    far_rows(s, ways, n);
 
     size_t cells = 0;
     file_length = 0;
@@ -288,9 +333,9 @@ int main(void) {
     static const struct {
         uint32_t side, pitch;
     } sheets[] = {{64, 64}, {512, 512}, {4096, 4096}, {4096, 4160}};
-    struct way ways[4] = {{.draw = pistonwool}, {.draw = walk}};
-    size_t n = 2;
-    printf("| figures | sheet | Pistonwool | C");
+    struct way ways[5] = {{.draw = pistonwool}, {.draw = walk}, {.draw = by_rows}};
+    size_t n = 3;
+    printf("| figures | sheet | Pistonwool | C | C by rows");
 #ifdef OPENCV
     ways[n++].draw = opencv;
     printf(" | OpenCV");
@@ -299,7 +344,7 @@ int main(void) {
     ways[n++].draw = libgd;
     printf(" | libgd");
 #endif
-    printf(" | Pistonwool / C%s |\n|---|---", BESIDE > 1 ? " | / OpenCV" : "");
+    printf(" | Pistonwool / C | / C by rows%s |\n|---|---", BESIDE > 2 ? " | / OpenCV" : "");
     for (size_t i = 0; i < n + BESIDE; i++)
         printf("|---");
     printf("|\n");

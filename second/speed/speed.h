@@ -26,7 +26,7 @@ struct sheet {
     int32_t *xs, *ys;
     size_t places;
     uint32_t *work;
-    uint8_t *fresh; /* what the sheet holds before a fill */
+    uint8_t *fresh; /* what the sheet holds before a fill; a second sheet for rings that are to be the same */
 };
 
 /* a number from least to most */
@@ -40,8 +40,10 @@ size_t territory(struct sheet *sheet, const struct figure *fill);
  * figure's kind */
 typedef int draw(struct sheet *sheet, const struct figure *figure);
 
-/* a plain C walk: figures that lie wholly on the sheet step an index, others test each cell */
+/* a plain C walk, rings by eight arcs in turn: figures that lie wholly on the sheet step an index, others test each cell */
 draw walk;
+/* a plain C walk of circles and ellipses row by row, from the top down; of these it marks the cells that the library does */
+draw by_rows;
 /* the same figures by the libraries of these names, where they were there to compile with */
 draw opencv, libgd;
 /* libgd draws on an image of its own */

@@ -1,5 +1,5 @@
-/* walk.c: what a C programmer would write without us: Bresenham's line, the midpoint circle and ellipse, a fill by runs with a
- * stack. */
+/* walk.c: what a C programmer would write without us: Bresenham's line, the midpoint circle and ellipse that write eight arcs in
+ * turn (an ellipse: four), a fill by runs with a stack. */
 #include <stdio.h>
 #include <stdlib.h>
 #include <string.h>
@@ -67,20 +67,35 @@ static void list(struct sheet *s, int32_t x0, int32_t y0, int32_t x1, int32_t y1
     }
 }
 
-/* the two rows y above and below the centre, x to either side of it, without a test: the ring is on the sheet */
-static void mirror(uint8_t *centre, ptrdiff_t pitch, ptrdiff_t x, ptrdiff_t y) {
-    centre[y * pitch + x] = 1;
-    centre[y * pitch - x] = 1;
-    centre[-y * pitch + x] = 1;
-    centre[-y * pitch - x] = 1;
+/* the centre's cell of a ring that lies wholly on the sheet, and else nothing */
+static uint8_t *centre_of(const struct sheet *s, int32_t cx, int32_t cy, int32_t a, int32_t b) {
+    if (on(s, cx - a, cy - b) && on(s, cx + a, cy + b))
+        return s->bytes + (size_t)cy * s->pitch + (size_t)cx;
+    return NULL;
+}
+
+/* the two rows y above and below the centre, x to either side of it: without a test where the ring is on the sheet */
+static inline void mirror(struct sheet *s, uint8_t *centre, int32_t cx, int32_t cy, int32_t x, int32_t y) {
+    if (centre) {
+        ptrdiff_t down = y * (ptrdiff_t)s->pitch;
+        centre[down + x] = 1;
+        centre[down - x] = 1;
+        centre[-down + x] = 1;
+        centre[-down - x] = 1;
+        return;
+    }
+    mark(s, cx + x, cy + y);
+    mark(s, cx - x, cy + y);
+    mark(s, cx + x, cy - y);
+    mark(s, cx - x, cy - y);
 }
 
 static void circle(struct sheet *s, int32_t cx, int32_t cy, int32_t r) {
-    uint8_t *centre = s->bytes + (size_t)cy * s->pitch + (size_t)cx;
+    uint8_t *centre = centre_of(s, cx, cy, r, r);
     int32_t x = 0, y = r, error = 1 - r;
     while (x <= y) {
-        mirror(centre, s->pitch, x, y);
-        mirror(centre, s->pitch, y, x);
+        mirror(s, centre, cx, cy, x, y);
+        mirror(s, centre, cx, cy, y, x);
         x++;
         if (error < 0) {
             error += 2 * x + 1;
@@ -92,11 +107,11 @@ static void circle(struct sheet *s, int32_t cx, int32_t cy, int32_t r) {
 }
 
 static void ellipse(struct sheet *s, int32_t cx, int32_t cy, int64_t a, int64_t b) {
-    uint8_t *centre = s->bytes + (size_t)cy * s->pitch + (size_t)cx;
+    uint8_t *centre = centre_of(s, cx, cy, (int32_t)a, (int32_t)b);
     int64_t aa = a * a, bb = b * b, x = 0, y = b, px = 0, py = 2 * aa * y;
     int64_t p = bb - aa * b + aa / 4;
     while (px < py) {
-        mirror(centre, s->pitch, x, y);
+        mirror(s, centre, cx, cy, (int32_t)x, (int32_t)y);
         x++;
         px += 2 * bb;
         if (p < 0) {
@@ -109,7 +124,7 @@ static void ellipse(struct sheet *s, int32_t cx, int32_t cy, int64_t a, int64_t 
     }
     p = bb * (x * x + x) + bb / 4 + aa * (y - 1) * (y - 1) - aa * bb;
     while (y >= 0) {
-        mirror(centre, s->pitch, x, y);
+        mirror(s, centre, cx, cy, (int32_t)x, (int32_t)y);
         y--;
         py -= 2 * aa;
         if (p > 0) {
