@@ -13,13 +13,13 @@ use Rattle.ring.proofs.Outside.{in-or-out, outside-up, outside-down, ou
 
 module _ {a b v l r x : ℕ} (F : Front a b v l r x) where
   -- a column is before the front exactly where it is not outside
-  pub front-past : (n : ℕ) → l ≤ n → outside a b (2 * n) v ≡ true → x ≤ n
+  front-past : (n : ℕ) → l ≤ n → outside a b (2 * n) v ≡ true → x ≤ n
   front-past n p e = elim (lt-or-ge n x) [ inl h ↦ absurd (in-or-out e (F .before n p h)) | inr h ↦ h ]
 
-  pub front-on : (n : ℕ) → x ≤ n → n < r → outside a b (2 * n) v ≡ true
+  front-on : (n : ℕ) → x ≤ n → n < r → outside a b (2 * n) v ≡ true
   front-on n p q = outside-up a b (2 * x) v (2 * n) v (omega arith) (omega arith) (F .at (omega arith))
 
-  pub front-before : (n : ℕ) → n < r → outside a b (2 * n) v ≡ false → n < x
+  front-before : (n : ℕ) → n < r → outside a b (2 * n) v ≡ false → n < x
   front-before n p e = elim (lt-or-ge n x) [ inl h ↦ h | inr h ↦ absurd (in-or-out (front-on n h p) e) ]
 
 -- a search begun, gone on beyond a column that is inside, come to one that is outside, and ended
@@ -89,7 +89,7 @@ front-fallen {a} {b} {v} {w} {l} {r} {x} {z} h F G =
 
 -- the end of a row at a front: the column before it, or the front itself
 module _ (a b y x : ℕ) where
-  pub end-at : ((rowEnd a b y x ≡ x - 1) × (outside a b (2 * (x - 1) + 1) (2 * y) ≡ true))
+  end-at : ((rowEnd a b y x ≡ x - 1) × (outside a b (2 * (x - 1) + 1) (2 * y) ≡ true))
       ⊎ ((rowEnd a b y x ≡ x) × (outside a b (2 * (x - 1) + 1) (2 * y) ≡ false))
   unfolding rowEnd
   end-at = by (outside a b (2 * (x - 1) + 1) (2 * y)) refl
@@ -104,10 +104,10 @@ module _ (a b y x : ℕ) where
   end-is r true e f = rw (sym e) f
   end-is r false e f = rw (sym e) (omega arith)
 
-  pub end-most : rowEnd a b y x ≤ x
+  end-most : rowEnd a b y x ≤ x
   end-most = elim end-at [ inl e ↦ omega (arith, e .0) | inr e ↦ omega (arith, e .0) ]
 
-  pub end-least : x - 1 ≤ rowEnd a b y x
+  end-least : x - 1 ≤ rowEnd a b y x
   end-least = elim end-at [ inl e ↦ omega (arith, e .0) | inr e ↦ omega (arith, e .0) ]
 
 -- what a row's cells are between: the first and the last, of the columns from l to before r

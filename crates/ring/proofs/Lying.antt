@@ -38,10 +38,8 @@ module _ (k : Shape) (p : Spot) (a b l r : ℕ) (w : Bool) (C : Centred p) (n : 
         of-a = refl;
         of-b = refl;
         lies = λ o. record {
-          some-a = pa .0;
-          most-a = pa .1;
-          some-b = pb .0;
-          most-b = pb .1;
+          axis-a = pa;
+          axis-b = pb;
           column = C .column;
           row = C .row;
           near = near;
@@ -49,7 +47,6 @@ module _ (k : Shape) (p : Spot) (a b l r : ℕ) (w : Bool) (C : Centred p) (n : 
             | inl m ↦ inr m
             | inr m ↦ inl (omega (arith, far i h))
           ];
-          order = o;
           some = omega (arith, near 0 n, far 0 n);
           most = omega arith;
           whole = λ t.

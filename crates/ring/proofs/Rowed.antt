@@ -25,18 +25,18 @@ use Rattle.ring.proofs.Tested.{cells-as, cells-none, cells-then, band�
 
 -- the test of a ring's rows, both ways
 module _ (g : Ring) (l r i j : ℕ) where
-  pub rows→ : T (inRows g l r i j) → (l ≤ j) × (j < r) × T (inRing g i j)
+  rows→ : T (inRows g l r i j) → (l ≤ j) × (j < r) × T (inRing g i j)
   unfolding inRows
   rows→ t =
       let u = and-l (leb l j && ltb j r) (inRing g i j) t in
       (leb→le l j (and-l (leb l j) (ltb j r) u), ltb→lt j r (and-r (leb l j) (ltb j r) u), and-r (leb l j && ltb j r) (inRing g i j) t)
 
-  pub →rows : l ≤ j → j < r → T (inRing g i j) → T (inRows g l r i j)
+  →rows : l ≤ j → j < r → T (inRing g i j) → T (inRows g l r i j)
   unfolding inRows
   →rows p q t = and-i (leb l j && ltb j r) (inRing g i j) (and-i (leb l j) (ltb j r) (le→leb l j p) (lt→ltb j r q)) t
 
 -- a row above or below the middle is bounded by its two fronts
-pub bounds-at : (a b y l r x z : ℕ) → 1 ≤ a → 1 ≤ b → 1 ≤ y → y ≤ b → l ≤ a → r ≤ a + 1
+bounds-at : (a b y l r x z : ℕ) → 1 ≤ a → 1 ≤ b → 1 ≤ y → y ≤ b → l ≤ a → r ≤ a + 1
     → Front a b (2 * y + 1) l r x → Front a b (2 * y - 1) l r z → Bounds a b y l r (rowEnd a b y x) (rowEnd a b y z)
 bounds-at a b zero l r x z p q h k m n F G = absurd (omega arith)
 bounds-at a b (suc j) l r x z p q h k m n F G =
@@ -67,7 +67,7 @@ module _ (k : Shape) (g : Ring) (P : Placed k g) (row x z low high : ℕ) where
       let n : 2 * (g .y - 65536 - (row + 1)) + 1 ≡ 2 * y - 1 = omega arith in
       let H : FrontOf g (2 * y - 1) z = front-risen (omega arith) F G in
       record {
-        bounds = rw (m, d, e) (bounds-at (g .a) (g .b) y (g .least) (g .past) x z (P .some-a) (P .some-b) (omega arith) (omega arith) (P .order) (P .most) F H);
+        bounds = rw (m, d, e) (bounds-at (g .a) (g .b) y (g .least) (g .past) x z (P .axis-a .0) (P .axis-b .0) (omega arith) (omega arith) (omega (arith, P .some, P .most)) (P .most) F H);
         next = rw n H;
       }
 
@@ -82,7 +82,7 @@ module _ (k : Shape) (g : Ring) (P : Placed k g) (row x z low high : ℕ) where
       let n : 2 * (row + 1 + 65536 - g .y) - 1 ≡ 2 * y + 1 = omega arith in
       let H : FrontOf g (2 * y + 1) z = front-fallen (omega arith) F G in
       record {
-        bounds = rw (m, d, e) (bounds-at (g .a) (g .b) y (g .least) (g .past) z x (P .some-a) (P .some-b) (omega arith) (omega arith) (P .order) (P .most) H F);
+        bounds = rw (m, d, e) (bounds-at (g .a) (g .b) y (g .least) (g .past) z x (P .axis-a .0) (P .axis-b .0) (omega arith) (omega arith) (omega (arith, P .some, P .most)) (P .most) H F);
         next = rw n H;
       }
 
@@ -91,7 +91,7 @@ pub middle-row : (k : Shape) (g : Ring) → Placed k g → (x : ℕ) → 65536 �
     → Bounds (g .a) (g .b) (off (g .y) (g .y - 65536)) (g .least) (g .past) x (g .a)
 middle-row k g P x h F =
     let e : off (g .y) (g .y - 65536) ≡ 0 = omega arith in
-    rw e (middle-bounds (g .a) (g .b) (g .least) (g .past) x (P .some-a) (P .some-b) (P .order) F)
+    rw e (middle-bounds (g .a) (g .b) (g .least) (g .past) x (P .axis-a .0) (P .axis-b .0) (omega (arith, P .some, P .most)) F)
 
 -- no row yet
 pub rows-none : (k : Shape) (ink : ℕ) (g : Ring) (l : ℕ) (s : List ℕ) → s ≡ paint k ink (cells (inRows g l l)) s

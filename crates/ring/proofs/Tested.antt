@@ -50,19 +50,19 @@ module _ (k : Shape) (ink : ℕ) where
 
 -- the tests of one row, both ways
 module _ (row l r i j : ℕ) where
-  pub run→ : T (run row l r i j) → (j ≡ row) × (l ≤ i) × (i < r)
+  run→ : T (run row l r i j) → (j ≡ row) × (l ≤ i) × (i < r)
   unfolding run
   run→ t = (search (eqb→eq, and-l), search (leb→le, and-l, and-r), search (ltb→lt, and-r))
 
-  pub →run : j ≡ row → l ≤ i → i < r → T (run row l r i j)
+  →run : j ≡ row → l ≤ i → i < r → T (run row l r i j)
   unfolding run
   →run p q s = and-i (eqb j row) (leb l i && ltb i r) (eqb-of j row p) (and-i (leb l i) (ltb i r) (le→leb l i q) (lt→ltb i r s))
 
-  pub part→ : T (part row l r i j) → (j ≡ row) × (l ≤ i + 65536) × (i + 65536 ≤ r)
+  part→ : T (part row l r i j) → (j ≡ row) × (l ≤ i + 65536) × (i + 65536 ≤ r)
   unfolding part
   part→ t = (search (eqb→eq, and-l), search (leb→le, and-l, and-r), search (leb→le, and-r))
 
-  pub →part : j ≡ row → l ≤ i + 65536 → i + 65536 ≤ r → T (part row l r i j)
+  →part : j ≡ row → l ≤ i + 65536 → i + 65536 ≤ r → T (part row l r i j)
   unfolding part
   →part p q s = search (and-i, eqb-of, le→leb)
 
@@ -77,7 +77,7 @@ module _ (row m l h i j : ℕ) where
 
 module _ (k : Shape) (ink row : ℕ) where
   -- one byte set is a run of one column
-  pub run-one : {s : List ℕ} → Sheet k s → (x : ℕ) (t : List ℕ) → x < k .width → row < k .height
+  run-one : {s : List ℕ} → Sheet k s → (x : ℕ) (t : List ℕ) → x < k .width → row < k .height
       → set t (row * k .pitch + x) ink ≡ paint k ink (cells (run row x (x + 1))) t
   unfolding place isCell
   run-one S x t a b =

@@ -73,21 +73,18 @@ inRing g i j = ellipseRule (g .a) (g .b) (off (g .x) i) (off (g .y) j)
 unfoldable pub inRows : Ring → ℕ → ℕ → ℕ → ℕ → Bool
 inRows g l r i j = (leb l j && ltb j r) && inRing g i j
 
--- a ring as it lies on a sheet
+-- a ring as it lies on a sheet, with some of its columns on it
 pub record Placed (k : Shape) (g : Ring) : Type 0 where
-  pub some-a : 1 ≤ g .a
-  pub most-a : g .a ≤ 16383
-  pub some-b : 1 ≤ g .b
-  pub most-b : g .b ≤ 16383
+  pub axis-a : Axis (g .a)
+  pub axis-b : Axis (g .b)
   pub column : Moved (g .x)
   pub row : Moved (g .y)
-  -- a column of the sheet is no nearer than the least, and nearer than past, or the ring is
+  -- a column of the sheet is no nearer to the middle than the least, and nearer than past or beyond the axis
   pub near : (i : ℕ) → i < k .width → g .least ≤ off (g .x) i
   pub far : (i : ℕ) → i < k .width → (off (g .x) i < g .past) ⊎ (g .a < off (g .x) i)
-  pub order : g .least ≤ g .a
   pub some : g .least < g .past
   pub most : g .past ≤ g .a + 1
-  -- where it is whole, so are its rows
+  -- where it is whole, all its columns are on the sheet
   pub whole : g .whole ≡ true → (65536 + g .a ≤ g .x) × (g .x + g .a < 65536 + k .width)
 
 -- how a ring lies on a sheet, before it is known whether any of its columns does

@@ -62,7 +62,7 @@ returns-2 c =
     let entry = first .before .before .before .before in
     let a = entry .args in
     let p = entry .pre in
-    two-parts (a .shape) (a .ink) (a .row) (a .ring .x) (a .low) (a .high) _ _ _ (p .3) (omega (arith, p .4, p .1 .most-a, p .1 .column .least))
+    two-parts (a .shape) (a .ink) (a .row) (a .ring .x) (a .low) (a .high) _ _ _ (p .3) (omega (arith, p .4, p .1 .axis-a .1, p .1 .column .least))
     (first .ink-part .ensures) (called .ink-part2 .ensures)
 
 pub ink-row-spec : {M : Type 1} → statement M

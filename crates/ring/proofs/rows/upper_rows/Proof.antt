@@ -50,11 +50,11 @@ risen-requires c κs =
     let entry = c .before .before .before .before in
     let P = entry .pre .0 .1 in
     record {
-      across = P .most-a;
-      down = P .most-b;
-      height = omega (arith, P .most-b, entry .pre .1, l .inv .order, c .loop-test .taken);
+      across = P .axis-a .1;
+      down = P .axis-b .1;
+      height = omega (arith, P .axis-b .1, entry .pre .1, l .inv .order, c .loop-test .taken);
       order = l .inv .front .high;
-      most = omega (arith, P .most, P .most-a);
+      most = omega (arith, P .most, P .axis-a .1);
     }
 
 row-end-requires : tie.Need-row-end-requires Inv-loop μ-loop
@@ -63,10 +63,10 @@ row-end-requires c κs =
     let at-loop = asked .before .before in
     let entry = at-loop .before .before .before in
     let P = entry .pre .0 .1 in (
-      P .most-a,
-      P .most-b,
-      omega (arith, at-loop .loop .inv .front .high, P .most, P .most-a),
-      omega (arith, P .most-b, entry .pre .1, at-loop .loop .inv .order, asked .before .loop-test .taken),
+      P .axis-a .1,
+      P .axis-b .1,
+      omega (arith, at-loop .loop .inv .front .high, P .most, P .axis-a .1),
+      omega (arith, P .axis-b .1, entry .pre .1, at-loop .loop .inv .order, asked .before .loop-test .taken),
     )
 
 row-end-requires-2 : tie.Need-row-end-requires-2 Inv-loop μ-loop
@@ -75,10 +75,10 @@ row-end-requires-2 c κs =
     let at-loop = asked .before .before in
     let entry = at-loop .before .before .before in
     let P = entry .pre .0 .1 in (
-      P .most-a,
-      P .most-b,
-      omega (arith, asked .risen .ensures .high, P .most, P .most-a),
-      omega (arith, P .most-b, entry .pre .1, at-loop .loop .inv .order, asked .before .loop-test .taken),
+      P .axis-a .1,
+      P .axis-b .1,
+      omega (arith, asked .risen .ensures .high, P .most, P .axis-a .1),
+      omega (arith, P .axis-b .1, entry .pre .1, at-loop .loop .inv .order, asked .before .loop-test .taken),
     )
 
 -- the row between the two fronts
