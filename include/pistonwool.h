@@ -2,8 +2,8 @@
  *
  * A sheet is height rows, pitch bytes from one to the next: cell (x, y) is byte y * pitch + x. Its length is exactly
  * pitch x height; what a row has after its width is padding, and no call changes it. Rows with none have the width as pitch.
- * Limits: width and height 1 to 4,096; pitch from width to 8,192; coordinates -16,384 to 16,383; radius 0 to 16,383;
- * semi-axes 1 to 16,383; s 0 to 6.
+ * Limits: width and height 1 to 4,096; pitch from width to 8,192; coordinates -16,384 to 16,383; semi-axes 0 to 16,383, a
+ * 0 only beside another 0; s 0 to 6.
  * Drawing sets each of a figure's cells that lies on the sheet to the ink and leaves every other byte as it was. Filling a
  * territory (pw_fill) sets the cells that a boundary drawn so shuts in.
  *
@@ -28,7 +28,7 @@
 #include <stdint.h>
 
 /* the version of this header and of the library installed with it */
-#define PW_VERSION "0.2.2"
+#define PW_VERSION "0.3.0"
 
 #if SIZE_MAX != UINT64_MAX
 #error "Pistonwool is for 64-bit machines only"
@@ -47,7 +47,7 @@ enum pw_reply {
     PW_SIZE = 1,
     /* a coordinate outside -16,384 to 16,383 */
     PW_COORDINATE = 2,
-    /* a radius outside 0 to 16,383 or a semi-axis outside 1 to 16,383 */
+    /* a radius or semi-axis outside 0 to 16,383, or a semi-axis of 0 beside one that is not */
     PW_RADIUS = 3,
     /* an s above 6 */
     PW_PIECES = 4,
@@ -77,12 +77,9 @@ enum pw_reply {
 uint32_t pw_line(uint8_t *sheet, size_t len, uint32_t width, uint32_t height, uint32_t pitch, uint8_t ink,
                  int32_t x0, int32_t y0, int32_t x1, int32_t y1, uint32_t *cells);
 
-/* Draws the circle of radius r about (x, y). */
-uint32_t pw_circle(uint8_t *sheet, size_t len, uint32_t width, uint32_t height, uint32_t pitch, uint8_t ink,
-                   int32_t x, int32_t y, uint32_t r);
-
 /* Draws the ellipse of semi-axes a along x and b along y about (x, y): the cells nearest to it in their column or in their row.
- * However flat it is, it has no holes: neighbours on it touch by a side or a corner all round. */
+ * However flat it is, it has no holes: neighbours on it touch by a side or a corner all round. With both 0 it is one cell.
+ * To draw a circle of radius r, give r for a and for b. */
 uint32_t pw_ellipse(uint8_t *sheet, size_t len, uint32_t width, uint32_t height, uint32_t pitch, uint8_t ink,
                     int32_t x, int32_t y, uint32_t a, uint32_t b);
 
@@ -146,11 +143,7 @@ uint32_t pw_line_metres(uint8_t *sheet, size_t len, uint32_t width, uint32_t hei
                         double east, double north, double size,
                         double x0, double y0, double x1, double y1, uint32_t *cells);
 
-/* Draws the circle of radius r about (x, y). */
-uint32_t pw_circle_metres(uint8_t *sheet, size_t len, uint32_t width, uint32_t height, uint32_t pitch, uint8_t ink,
-                          double east, double north, double size, double x, double y, double r);
-
-/* Draws the ellipse of semi-axes a along x and b along y about (x, y). */
+/* Draws the ellipse of semi-axes a along x and b along y about (x, y), and a circle, as pw_ellipse does. */
 uint32_t pw_ellipse_metres(uint8_t *sheet, size_t len, uint32_t width, uint32_t height, uint32_t pitch, uint8_t ink,
                            double east, double north, double size, double x, double y, double a, double b);
 

@@ -1,4 +1,4 @@
-/* examples.c: the checked examples of document 01 that are not starred, each by its words through the library; the last line counts. */
+/* examples.c: the checked examples of document 01 that are not starred, and those of rings with axes of 0, each by its words through the library; the last line counts. */
 #include <stdio.h>
 #include <string.h>
 
@@ -33,7 +33,7 @@ static int at(int x, int y) { return sheet[y * WIDTH + x]; }
 /* the cell of a position, as the ring of radius one cell about it shows, whose rightmost cell is one further: so -1 is seen too */
 static int column(double east, double size, double x) {
     clear();
-    if (pw_circle_metres(sheet, sizeof sheet, WIDTH, HEIGHT, WIDTH, 1, east, 0.0, size, x, 2.0 * size, size) != PW_DONE)
+    if (pw_ellipse_metres(sheet, sizeof sheet, WIDTH, HEIGHT, WIDTH, 1, east, 0.0, size, x, 2.0 * size, size, size) != PW_DONE)
         return -100;
     for (int c = WIDTH - 1; c >= 0; c--)
         if (at(c, 2))
@@ -62,6 +62,22 @@ int main(void) {
     same("origin 1000.0, size 25.0: 1000.0 is cell 0", column(1000.0, 25.0, 1000.0), 0);
     same("origin 1000.0, size 25.0: 999.0 is cell -1", column(1000.0, 25.0, 999.0), -1);
     same("position -0.0, origin 0.0: cell 0", column(0.0, 1.0, -0.0), 0);
+
+    /* document 02, K10 */
+    clear();
+    same("both axes 0 are drawn", pw_ellipse(sheet, sizeof sheet, WIDTH, HEIGHT, WIDTH, 1, 1, 2, 0, 0), PW_DONE);
+    same("both axes 0 are one cell", set() == 1 && at(1, 2), 1);
+    same("a single axis of 0 is refused with 3",
+         pw_ellipse(sheet, sizeof sheet, WIDTH, HEIGHT, WIDTH, 1, 1, 2, 0, 3), PW_RADIUS);
+    same("and so is the other", pw_ellipse(sheet, sizeof sheet, WIDTH, HEIGHT, WIDTH, 1, 1, 2, 3, 0), PW_RADIUS);
+    same("axes of 16,384 are refused with 3",
+         pw_ellipse(sheet, sizeof sheet, WIDTH, HEIGHT, WIDTH, 1, 1, 2, 16384, 16384), PW_RADIUS);
+    clear();
+    same("lengths below a cell are drawn",
+         pw_ellipse_metres(sheet, sizeof sheet, WIDTH, HEIGHT, WIDTH, 1, 0.0, 0.0, 25.0, 30.0, 60.0, 24.0, 0.0), PW_DONE);
+    same("lengths below a cell are one cell", set() == 1 && at(1, 2), 1);
+    same("one length below a cell is refused with 3",
+         pw_ellipse_metres(sheet, sizeof sheet, WIDTH, HEIGHT, WIDTH, 1, 0.0, 0.0, 25.0, 30.0, 60.0, 24.0, 25.0), PW_RADIUS);
 
     cells = 0;
     same("coordinate 16,383 is drawn", pw_line(sheet, sizeof sheet, WIDTH, HEIGHT, WIDTH, 1, 0, 0, 16383, 0, &cells), PW_DONE);

@@ -32,7 +32,7 @@ static int pistonwool(struct sheet *s, const struct figure *f) {
     uint32_t side = s->side, pitch = s->pitch, cells, reply = 0;
     switch (f->kind) {
     case LINE: reply = pw_line(s->bytes, len, side, side, pitch, 1, f->x0, f->y0, f->x1, f->y1, &cells); break;
-    case CIRCLE: reply = pw_circle(s->bytes, len, side, side, pitch, 1, f->x0, f->y0, f->a); break;
+    case CIRCLE: reply = pw_ellipse(s->bytes, len, side, side, pitch, 1, f->x0, f->y0, f->a, f->a); break;
     case ELLIPSE: reply = pw_ellipse(s->bytes, len, side, side, pitch, 1, f->x0, f->y0, f->a, f->b); break;
     case CURVE:
         reply = pw_curve(s->bytes, len, side, side, pitch, 1, f->x0, f->y0, f->x1, f->y1, f->x2, f->y2, f->s);

@@ -6,8 +6,6 @@ mod declared {
     extern "C" {
         pub fn pw_line(sheet: *mut u8, len: usize, width: u32, height: u32, pitch: u32, ink: u8,
                        x0: i32, y0: i32, x1: i32, y1: i32, cells: *mut u32) -> u32;
-        pub fn pw_circle(sheet: *mut u8, len: usize, width: u32, height: u32, pitch: u32, ink: u8,
-                         x: i32, y: i32, r: u32) -> u32;
         pub fn pw_ellipse(sheet: *mut u8, len: usize, width: u32, height: u32, pitch: u32, ink: u8,
                           x: i32, y: i32, a: u32, b: u32) -> u32;
         pub fn pw_curve(sheet: *mut u8, len: usize, width: u32, height: u32, pitch: u32, ink: u8,
@@ -23,8 +21,6 @@ mod declared {
         pub fn pw_line_metres(sheet: *mut u8, len: usize, width: u32, height: u32, pitch: u32, ink: u8,
                               east: f64, north: f64, size: f64,
                               x0: f64, y0: f64, x1: f64, y1: f64, cells: *mut u32) -> u32;
-        pub fn pw_circle_metres(sheet: *mut u8, len: usize, width: u32, height: u32, pitch: u32, ink: u8,
-                                east: f64, north: f64, size: f64, x: f64, y: f64, r: f64) -> u32;
         pub fn pw_ellipse_metres(sheet: *mut u8, len: usize, width: u32, height: u32, pitch: u32, ink: u8,
                                  east: f64, north: f64, size: f64, x: f64, y: f64, a: f64, b: f64) -> u32;
     }
@@ -38,7 +34,7 @@ pub struct Lent<'a> {
     pub pitch: u32,
 }
 
-/// A figure in cells, with the types of the header.
+/// A figure in cells, with the types of the header; a circle is drawn as the ellipse of equal axes.
 #[derive(Clone, Copy, Debug)]
 pub enum Cells {
     Line([i32; 4]),
@@ -70,7 +66,7 @@ pub fn draw(lent: Lent, ink: u8, figure: Cells, cells: &mut u32) -> u32 {
     unsafe {
         match figure {
             Cells::Line([x0, y0, x1, y1]) => declared::pw_line(sheet, len, w, h, pitch, ink, x0, y0, x1, y1, cells),
-            Cells::Circle([x, y], r) => declared::pw_circle(sheet, len, w, h, pitch, ink, x, y, r),
+            Cells::Circle([x, y], r) => declared::pw_ellipse(sheet, len, w, h, pitch, ink, x, y, r, r),
             Cells::Ellipse([x, y], a, b) => declared::pw_ellipse(sheet, len, w, h, pitch, ink, x, y, a, b),
             Cells::Curve([x0, y0, x1, y1, x2, y2], s) => {
                 declared::pw_curve(sheet, len, w, h, pitch, ink, x0, y0, x1, y1, x2, y2, s)
@@ -90,7 +86,7 @@ pub fn draw_metres(lent: Lent, ink: u8, survey: Survey, figure: Metres, cells: &
                 declared::pw_line_metres(sheet, len, w, h, pitch, ink, east, north, size, x0, y0, x1, y1, cells)
             }
             Metres::Circle([x, y, r]) => {
-                declared::pw_circle_metres(sheet, len, w, h, pitch, ink, east, north, size, x, y, r)
+                declared::pw_ellipse_metres(sheet, len, w, h, pitch, ink, east, north, size, x, y, r, r)
             }
             Metres::Ellipse([x, y, a, b]) => {
                 declared::pw_ellipse_metres(sheet, len, w, h, pitch, ink, east, north, size, x, y, a, b)

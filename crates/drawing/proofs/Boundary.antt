@@ -77,6 +77,8 @@ same-figure : (f g : Figure) (c : Cell) → SameFigure f g → onFigure f c ≡ 
 same-figure _ _ c (SameFigure.alike f) = refl
 same-figure _ _ c (SameFigure.line a b) = onLine-either a b c
 same-figure _ _ c (SameFigure.curve p q r s) = on-curve-either p q r s c
+same-figure _ _ c (SameFigure.circle centre r) = refl
+same-figure _ _ c (SameFigure.ellipse centre r) = refl
 
 -- The cells of all records of a list.
 onAll : List Record → Cell → Bool

@@ -15,14 +15,14 @@ use Rattle.sheet.proofs.Draws.{drawn}
 use Rattle.sheet.proofs.Figures.{Sound}
 use Rattle.sheet.proofs.Lent.{if-sheet, sheet-again}
 use Rattle.line.specs.Draw.{lineAnswer}
-use Rattle.ring.specs.Draw.{ringAnswer}
+use Rattle.ring.specs.Draw.{ellipseAnswer}
 use Rattle.curve.specs.Draw.{allInLimits, curveAnswer}
 use Rattle.drawing.specs.Figure.{onFigure, figureDrawing}
 
 module _ (k : Shape) (ink : ℕ) where
   -- it begins with the test of the sheet
   pub figure-begins : (f : Figure) (n : ℕ) → figureDrawing k ink f .answer n ≡ ifSheet k n (figureDrawing k ink f .answer n)
-  unfolding lineAnswer ringAnswer curveAnswer
+  unfolding lineAnswer ellipseAnswer curveAnswer
   figure-begins (Line a b) n = sym (sheet-again k n _)
   figure-begins (Circle c r) n = sym (sheet-again k n _)
   figure-begins (Ellipse c a b) n = sym (sheet-again k n _)
@@ -30,10 +30,10 @@ module _ (k : Shape) (ink : ℕ) where
 
   -- on a sheet it is done, where it is within the limits
   pub figure-done : (f : Figure) (n : ℕ) → fits k n ≡ true → Sound f → isDone (figureDrawing k ink f .answer n) ≡ true
-  unfolding lineAnswer ringAnswer curveAnswer allInLimits
+  unfolding lineAnswer ellipseAnswer curveAnswer allInLimits
   figure-done (Line a b) n e l = simp (if-sheet k n e, l .0, l .1)
   figure-done (Circle c r) n e l = simp (if-sheet k n e, l .0, l .1)
-  figure-done (Ellipse c a b) n e l = simp (if-sheet k n e, l .0, l .1, l .2)
+  figure-done (Ellipse c a b) n e l = simp (if-sheet k n e, l .0, l .1)
   figure-done (Curve p0 p1 p2 s) n e l = simp (if-sheet k n e, l .0, l .1, l .2, l .3)
 
   pub figure-painted : (f : Figure) (s t : List ℕ) (r : Answer) → fits k (length s) ≡ true → Sound f

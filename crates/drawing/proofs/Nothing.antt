@@ -18,12 +18,12 @@ use Rattle.sheet.proofs.Draws.{draws-as}
 use Rattle.line.specs.Rule.{lesser, rise, fromLesser, nth, onLine}
 use Rattle.line.specs.Draw.{lineAnswer}
 use Rattle.line.specs.Listing.{listed, listAnswer, ListsInto}
-use Rattle.ring.specs.Ring.{around, inEighth, circleRule, nearest, ellipseRule}
-use Rattle.ring.specs.Draw.{ringAnswer}
+use Rattle.ring.specs.Ring.{around, nearest, ellipseRule}
+use Rattle.ring.specs.Draw.{ellipseAnswer}
 use Rattle.curve.specs.Rule.{blend, coordinateAt, pointAt, onCurve}
 use Rattle.curve.specs.Draw.{allInLimits, curveAnswer}
 use Rattle.survey.specs.Cell.{isCellOf, findCell}
-use Rattle.survey.specs.Metres.{sound, isLength, inCells}
+use Rattle.survey.specs.Metres.{sound, areAxes, inCells}
 use Rattle.survey.specs.declared.Found.the-variants.{At}
 use Rattle.survey.specs.declared.Survey.{Survey}
 use Rattle.survey.specs.declared.Metres.{Metres}
@@ -55,11 +55,11 @@ unfolding paint byPlace held onSheet cellAt lineAnswer ifSheet inLimits coordina
 line-draws a h = nothing (h .leaves)
 
 pub circle-draws : DrawsNothing (Circle (cellOf 0 0) 0)
-unfolding paint byPlace held onSheet cellAt ringAnswer ifSheet inLimits coordinate around circleRule inEighth
+unfolding paint byPlace held onSheet cellAt ellipseAnswer semiAxis ifSheet inLimits coordinate around ellipseRule
 circle-draws a h = nothing (h .leaves)
 
 pub ellipse-draws : DrawsNothing (Ellipse (cellOf 1 0) 1 1)
-unfolding paint byPlace held onSheet cellAt ringAnswer semiAxis ifSheet inLimits coordinate around ellipseRule nearest
+unfolding paint byPlace held onSheet cellAt ellipseAnswer semiAxis ifSheet inLimits coordinate around ellipseRule nearest
 ellipse-draws a h = nothing (h .leaves)
 
 pub curve-draws : DrawsNothing (Curve (cellOf 0 0) (cellOf 0 0) (cellOf 0 0) 0)
@@ -111,12 +111,12 @@ pub line-cells : inCells home (metres.Line (whole 0) (whole 0) (whole 0) (whole 
 unfolding inCells
 line-cells = simp (sound-home, zero-at)
 
-pub circle-cells : inCells home (metres.Circle (whole 0) (whole 0) (whole 0)) ≡ Is (Circle (cellOf 0 0) 0)
-unfolding inCells isLength
+pub circle-cells : inCells home (metres.Circle (whole 0) (whole 0) (whole 0)) ≡ Is (Ellipse (cellOf 0 0) 0 0)
+unfolding inCells areAxes semiAxis
 circle-cells = simp (sound-home, zero-at, zero-long)
 
 pub ellipse-cells : inCells home (metres.Ellipse (whole 1) (whole 0) (whole 1) (whole 1)) ≡ Is (Ellipse (cellOf 1 0) 1 1)
-unfolding inCells isLength semiAxis
+unfolding inCells areAxes semiAxis
 ellipse-cells = simp (sound-home, one-at, zero-at, one-long)
 
 -- where the figure in cells is known, the drawing is that of the figure in cells

@@ -17,7 +17,7 @@ use Rattle.sheet.proofs.Limits.{fits-disjoint}
 use Rattle.sheet.proofs.Pitch.{any-pitch, on-sheets, any-sheet}
 use Rattle.line.specs.Rule.{onLine}
 use Rattle.line.specs.Draw.{lineAnswer}
-use Rattle.ring.specs.Draw.{ringAnswer}
+use Rattle.ring.specs.Draw.{ellipseAnswer}
 use Rattle.curve.specs.Draw.{curveAnswer}
 use Rattle.record.specs.File.{fileAnswer}
 use Rattle.survey.specs.Metres.{inCells}
@@ -31,7 +31,7 @@ use Rattle.drawing.specs.Metres.{cellsDrawing, metresDrawing}
 
 -- a figure of any kind; the number that a line tells is of cells
 pub figure-any-pitch : (ink : ℕ) (f : Figure) → AnyPitch (λ (k : Shape). figureDrawing k ink f)
-unfolding lineAnswer ringAnswer curveAnswer
+unfolding lineAnswer ellipseAnswer curveAnswer
 figure-any-pitch ink (Line a b) =
     any-pitch (λ k. lineAnswer k a b) (only ink (onLine a b)) (λ k pitch n m e f.
     on-sheets k (withPitch k pitch) n m _ _ e f

@@ -9,7 +9,7 @@ use native.Mathlib.Omega.{arith}
 use lib.ListN.{length}
 use lib.IntN.{pos, natAbs}
 use lib.Ieee.{Float, nan, ofInt, sub, div, le, lt}
-use Rattle.sheet.specs.Sheet.{coordinate, inLimits, cellOf, radius, semiAxis, split}
+use Rattle.sheet.specs.Sheet.{coordinate, inLimits, cellOf, semiAxis, axes, split}
 use Rattle.sheet.specs.Reply.{Answer, number, done, told, isDone, valueOf}
 use Rattle.sheet.specs.Drawing.{ifSheet, markAnswer}
 use Rattle.sheet.specs.Inner.{moved, lowered, movedCell, loweredCell}
@@ -25,7 +25,7 @@ use Rattle.sheet.proofs.Empty.{Both, Differ}
 use Rattle.line.specs.Draw.{lineAnswer}
 use Rattle.line.specs.Listing.{listAnswer}
 use Rattle.line.specs.Pen.{fresh, movedOn, beginAnswer, hasCell, nextAnswer, askAnswer}
-use Rattle.ring.specs.Draw.{ringAnswer, circleDrawing, ellipseDrawing}
+use Rattle.ring.specs.Draw.{ellipseAnswer, ellipseDrawing}
 use Rattle.curve.specs.Draw.{allInLimits, curveAnswer}
 use Rattle.survey.specs.Cell.{isCellOf, findCell, toldFound}
 use Rattle.survey.specs.Metres.{findCoordinate, findLength, sound, inCells, toldInCells}
@@ -67,12 +67,13 @@ pub coordinate-differs : Differ coordinate (pos 0) (pos 16384)
 unfolding coordinate
 coordinate-differs e = true≢false e
 
-pub radius-differs : Differ radius 0 16384
-radius-differs e = true≢false e
-
-pub semi-axis-differs : Differ semiAxis 1 0
+pub semi-axis-differs : Differ (λ (n : ℕ). semiAxis n 1) 1 0
 unfolding semiAxis
 semi-axis-differs e = true≢false e
+
+pub axes-differs : Differ (axes 1) 1 0
+unfolding semiAxis
+axes-differs e = true≢false e
 
 pub split-differs : Differ split 0 7
 split-differs e = true≢false e
@@ -129,13 +130,9 @@ pub has-cell-differs : Differ hasCell (fresh origin origin) (movedOn (fresh orig
 unfolding hasCell inLimits coordinate
 has-cell-differs e = true≢false e
 
--- of ring: a radius too great, a semi-axis of 0
-pub circle-both : Both (λ (r : ℕ). circleDrawing small 1 origin r .answer 1) 0 16384
-unfolding ringAnswer ifSheet inLimits coordinate
-circle-both = record { done = refl; refused = refl }
-
+-- of ring: a single semi-axis of 0
 pub ellipse-both : Both (λ (b : ℕ). ellipseDrawing small 1 origin 1 b .answer 1) 1 0
-unfolding ringAnswer semiAxis ifSheet inLimits coordinate
+unfolding ellipseAnswer semiAxis ifSheet inLimits coordinate
 ellipse-both = record { done = refl; refused = refl }
 
 -- of curve: s above 6
@@ -218,10 +215,6 @@ pub line-metres-both : Both (answerIn (metres.Line (whole 0) (whole 0) (whole 0)
 unfolding lineAnswer ifSheet inLimits coordinate
 line-metres-both = in-cells-both answerOf _ _ line-cells refl refl
 
-pub circle-metres-both : Both (answerIn (metres.Circle (whole 0) (whole 0) (whole 0))) home flat
-unfolding ringAnswer ifSheet inLimits coordinate
-circle-metres-both = in-cells-both answerOf _ _ circle-cells refl refl
-
 pub ellipse-metres-both : Both (answerIn (metres.Ellipse (whole 1) (whole 0) (whole 1) (whole 1))) home flat
-unfolding ringAnswer semiAxis ifSheet inLimits coordinate
+unfolding ellipseAnswer semiAxis ifSheet inLimits coordinate
 ellipse-metres-both = in-cells-both answerOf _ _ ellipse-cells refl refl

@@ -13,11 +13,11 @@ use Rattle.sheet.specs.Sheet.{cellOf}
 use Rattle.sheet.specs.declared.Cell.{Cell}
 use Rattle.line.specs.Rule.{lesser, rise, fromLesser, nth}
 use Rattle.line.specs.Listing.{listed}
-use Rattle.ring.specs.Ring.{around, inEighth, circleRule, onCircle, nearest, ellipseRule, onEllipse}
+use Rattle.ring.specs.Ring.{around, nearest, ellipseRule, onEllipse}
+use Rattle.ring.specs.Circle.{inEighth, circleRule, onCircle}
 use Rattle.ring.proofs.Columns.{ellipse-within}
 use Rattle.ring.proofs.Eighths.{circle-within}
 use Rattle.curve.specs.Rule.{blend, coordinateAt, pointAt}
-use Rattle.sheet.specs.declared.Figure.the-variants.{Circle, Ellipse}
 use Rattle.drawing.specs.Starred.{ring, span, row, rows, among, near, mirrored, Holds, AllHold, none, also, from0, from2, from3, from32, starredExamples, from101, ownExamples}
 
 -- no cell of a ring about the origin is further away than its radius or its longer semi-axis
@@ -38,11 +38,11 @@ module _ (limit : ℕ) where
       (omega (arith, from-origin (d .x)), omega (arith, from-origin (d .y)))
 
   circle-holds : (r n : ℕ) (from : List Cell) → r ≤ limit → near limit (onCircle (cellOf 0 0) r) ≡ near limit (mirrored from)
-      → length (near limit (onCircle (cellOf 0 0) r)) ≡ n → Holds (ring limit (Circle (cellOf 0 0) r) from n)
+      → length (near limit (onCircle (cellOf 0 0) r)) ≡ n → Holds (ring limit (onCircle (cellOf 0 0) r) from n)
   circle-holds r n from h e l = (in-circle r h, e, l)
 
   ellipse-holds : (a b n : ℕ) (from : List Cell) → a ≤ limit → b ≤ limit → near limit (onEllipse (cellOf 0 0) a b) ≡ near limit (mirrored from)
-      → length (near limit (onEllipse (cellOf 0 0) a b)) ≡ n → Holds (ring limit (Ellipse (cellOf 0 0) a b) from n)
+      → length (near limit (onEllipse (cellOf 0 0) a b)) ≡ n → Holds (ring limit (onEllipse (cellOf 0 0) a b) from n)
   ellipse-holds a b n from h g e l = (in-ellipse a b h g, e, l)
 
 pub starred : AllHold starredExamples
@@ -64,4 +64,7 @@ starred =
 
 pub own-examples : AllHold ownExamples
 unfolding ownExamples among rows row span mirrored around ellipseRule nearest
-own-examples = also (ellipse-holds 10 10 1 _ from101 (omega arith) (omega arith) refl refl) none
+own-examples =
+    also (ellipse-holds 10 10 1 _ from101 (omega arith) (omega arith) refl refl)
+    (also (ellipse-holds 4 0 0 _ from0 (omega arith) (omega arith) refl refl)
+    none)

@@ -9,21 +9,21 @@ use Rattle.sheet.specs.declared.Figure.{Figure}
 use Rattle.sheet.specs.declared.Figure.the-variants.{Line, Circle, Ellipse, Curve}
 use Rattle.line.specs.Rule.{onLine}
 use Rattle.line.specs.Draw.{lineDrawing}
-use Rattle.ring.specs.Ring.{onCircle, onEllipse}
-use Rattle.ring.specs.Draw.{circleDrawing, ellipseDrawing}
+use Rattle.ring.specs.Ring.{onEllipse}
+use Rattle.ring.specs.Draw.{ellipseDrawing}
 use Rattle.curve.specs.Rule.{onCurve}
 use Rattle.curve.specs.Draw.{curveDrawing}
 
--- the cells of a figure, by the rule of its kind
+-- the cells of a figure, by the rule of its kind; a circle's is that of equal axes
 abbrev pub onFigure : Figure → Cell → Bool
 onFigure (Line a b) = onLine a b
-onFigure (Circle c r) = onCircle c r
+onFigure (Circle c r) = onEllipse c r r
 onFigure (Ellipse c a b) = onEllipse c a b
 onFigure (Curve p0 p1 p2 s) = onCurve (p0 ∷ p1 ∷ p2 ∷ []) s
 
 -- drawing a figure is the drawing of its kind
 abbrev pub figureDrawing : Shape → ℕ → Figure → Drawing
 figureDrawing k ink (Line a b) = lineDrawing k ink a b
-figureDrawing k ink (Circle c r) = circleDrawing k ink c r
+figureDrawing k ink (Circle c r) = ellipseDrawing k ink c r r
 figureDrawing k ink (Ellipse c a b) = ellipseDrawing k ink c a b
 figureDrawing k ink (Curve p0 p1 p2 s) = curveDrawing k ink (p0 ∷ p1 ∷ p2 ∷ []) s

@@ -9,16 +9,15 @@ use lib.IntN.{ℤ, pos, negsuc, negℤ, natAbs}
 use Rattle.sheet.specs.Sheet.{cell, cellOf}
 use Rattle.sheet.specs.declared.Cell.{Cell}
 use Rattle.line.specs.Listing.{cellsOf, listing}
+use Rattle.ring.specs.Ring.{onEllipse}
+use Rattle.ring.specs.Circle.{onCircle}
 use Rattle.curve.specs.Rule.{pointAt}
-use Rattle.sheet.specs.declared.Figure.{Figure}
-use Rattle.sheet.specs.declared.Figure.the-variants.{Circle, Ellipse}
-use Rattle.drawing.specs.Figure.{onFigure}
 
--- a line by its ends and the cells listed; a ring by how far it goes at most, the cells (x, y) that it is mirrored from, and how
--- many it has; a curve by its control points, s and its points
+-- a line by its ends and the cells listed; a ring by how far it goes at most, its rule, the cells (x, y) that it is mirrored from, and
+-- how many it has; a curve by its control points, s and its points
 pub data Example : Type 0 where
   line : (a b : Cell) → List Cell → Example
-  ring : ℕ → Figure → List Cell → ℕ → Example
+  ring : ℕ → (Cell → Bool) → List Cell → ℕ → Example
   curve : List Cell → ℕ → List Cell → Example
 
 -- the numbers −n to n, and the cells of their rows
@@ -51,9 +50,9 @@ mirrored (c ∷ cs) d = (eqb (natAbs (d .x)) (natAbs (c .x)) && eqb (natAbs (d .
 abbrev pub Holds : Example → Type 0
 Holds (line a b cells) = listing a b ≡ cells
 Holds (ring limit f from n) =
-    ((d : Cell) → T (onFigure f d) → (natAbs (d .x) ≤ limit) × (natAbs (d .y) ≤ limit))
-    × (near limit (onFigure f) ≡ near limit (mirrored from))
-    × (length (near limit (onFigure f)) ≡ n)
+    ((d : Cell) → T (f d) → (natAbs (d .x) ≤ limit) × (natAbs (d .y) ≤ limit))
+    × (near limit f ≡ near limit (mirrored from))
+    × (length (near limit f) ≡ n)
 Holds (curve ps s points) = cellsOf (pointAt ps (2 ^ s)) (2 ^ s + 1) ≡ points
 
 pub data AllHold : (es : List Example) → Type 0 where
@@ -92,10 +91,10 @@ starredExamples =
     ∷ line (cellOf 0 0) above (cellOf 0 0 ∷ cellOf 1 0 ∷ above ∷ [])
     ∷ line (cellOf 0 0) (cellOf 1 2) (cellOf 0 0 ∷ cellOf 1 1 ∷ cellOf 1 2 ∷ [])
     ∷ line (cellOf 4 4) (cellOf 4 4) (cellOf 4 4 ∷ [])
-    ∷ ring 4 (Circle (cellOf 0 0) 0) from0 1
-    ∷ ring 4 (Circle (cellOf 0 0) 2) from2 12
-    ∷ ring 4 (Circle (cellOf 0 0) 3) from3 16
-    ∷ ring 4 (Ellipse (cellOf 0 0) 3 2) from32 16
+    ∷ ring 4 (onCircle (cellOf 0 0) 0) from0 1
+    ∷ ring 4 (onCircle (cellOf 0 0) 2) from2 12
+    ∷ ring 4 (onCircle (cellOf 0 0) 3) from3 16
+    ∷ ring 4 (onEllipse (cellOf 0 0) 3 2) from32 16
     ∷ curve (cellOf 0 0 ∷ cellOf 2 4 ∷ cellOf 4 0 ∷ []) 1 (cellOf 0 0 ∷ cellOf 2 2 ∷ cellOf 4 0 ∷ [])
     ∷ curve (level less ∷ level less ∷ level (pos 0) ∷ []) 1 (level less ∷ level less ∷ level (pos 0) ∷ [])
     ∷ []
@@ -106,5 +105,6 @@ from101 =
     cellOf 0 1 ∷ cellOf 1 1 ∷ cellOf 2 1 ∷ cellOf 3 1 ∷ cellOf 4 1 ∷ cellOf 5 1 ∷ cellOf 6 1 ∷ cellOf 7 1 ∷ cellOf 8 1
     ∷ cellOf 9 0 ∷ cellOf 10 0 ∷ []
 
+-- Document 02, K10: an ellipse with both axes 0 is one cell
 unfoldable pub ownExamples : List Example
-ownExamples = ring 10 (Ellipse (cellOf 0 0) 10 1) from101 38 ∷ []
+ownExamples = ring 10 (onEllipse (cellOf 0 0) 10 1) from101 38 ∷ ring 4 (onEllipse (cellOf 0 0) 0 0) from0 1 ∷ []

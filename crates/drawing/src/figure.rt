@@ -1,4 +1,4 @@
-// A figure of any kind, drawn by the drawing of its kind.
+// A figure of any kind, drawn by the drawing of its kind; a circle as the ellipse of equal axes.
 ghost use Rattle.sheet.specs.Reply.{told};
 ghost use Rattle.sheet.specs.Drawing.{Draws};
 ghost use Rattle.drawing.specs.Figure.{figureDrawing};
@@ -12,7 +12,7 @@ pub fn draw_figure(sheet: &mut [u8], shape: Shape, ink: u8, figure: Figure) -> R
 {
     match figure {
         Figure::Line(a, b) => line::draw_line(sheet, shape, ink, a, b),
-        Figure::Circle(centre, r) => ring::draw_circle(sheet, shape, ink, centre, r),
+        Figure::Circle(centre, r) => ring::draw_ellipse(sheet, shape, ink, centre, r, r),
         Figure::Ellipse(centre, a, b) => ring::draw_ellipse(sheet, shape, ink, centre, a, b),
         Figure::Curve(p0, p1, p2, s) => curve::draw_curve(sheet, shape, ink, p0, p1, p2, s),
     }

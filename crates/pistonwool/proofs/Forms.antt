@@ -7,7 +7,7 @@ use native.Mathlib.Omega.{arith}
 use lib.Dec.{leb}
 use lib.IntN.{ℤ}
 use lib.Ieee.{Float}
-use Rattle.sheet.specs.Sheet.{onSheet, cell, inLimits, radius, semiAxis, split, cellsOn}
+use Rattle.sheet.specs.Sheet.{onSheet, cell, inLimits, axes, split, cellsOn}
 use Rattle.sheet.specs.declared.Cell.{Cell}
 use Rattle.sheet.specs.declared.Shape.{Shape}
 use Rattle.sheet.specs.declared.Figure.{Figure}
@@ -19,9 +19,9 @@ use Rattle.line.specs.Rule.{long, onLine}
 use Rattle.line.specs.Draw.{lineAnswer}
 use Rattle.line.specs.Listing.{listAnswer}
 use Rattle.line.proofs.Bridge.{long-limit, ends-lifted}
-use Rattle.ring.specs.Draw.{ringAnswer}
+use Rattle.ring.specs.Draw.{ellipseAnswer}
 use Rattle.curve.specs.Draw.{allInLimits, curveAnswer}
-use Rattle.survey.specs.Metres.{sound, eastward, northward, findLength, isLength, withCell, within, figureIn, inCells}
+use Rattle.survey.specs.Metres.{sound, eastward, northward, findLength, areAxes, withCell, within, figureIn, inCells}
 use Rattle.survey.specs.declared.Found.{Found}
 use Rattle.survey.specs.declared.Found.the-variants.{At, NoCell}
 use Rattle.survey.specs.declared.Survey.{Survey}
@@ -58,11 +58,11 @@ list-tells n m a b =
     let e = ends-lifted a b l _ _ refl refl in
     Tells.done _ (record { n = long a b + 1; is = refl; small = omega (arith, long-limit a b _ _ (e .0) (e .1)) })))
 
--- a ring and a curve tell their number alone
-pub ring-tells : (k : Shape) (c : Cell) (limits : Bool) (n : ℕ) → Tells None (ringAnswer k c limits n)
-unfolding ringAnswer
-ring-tells k c limits n =
-    sheet-tells k n _ (λ e. unless-tells (inLimits c) Coordinate _ (λ f. unless-tells limits Radius _ (λ g. Tells.done [] refl)))
+-- an ellipse and a curve tell their number alone
+pub ellipse-tells : (k : Shape) (c : Cell) (a b n : ℕ) → Tells None (ellipseAnswer k c a b n)
+unfolding ellipseAnswer
+ellipse-tells k c a b n =
+    sheet-tells k n _ (λ e. unless-tells (inLimits c) Coordinate _ (λ f. unless-tells (axes a b) Radius _ (λ g. Tells.done [] refl)))
 
 pub curve-tells : (k : Shape) (ps : List Cell) (s n : ℕ) → Tells None (curveAnswer k ps s n)
 unfolding curveAnswer
@@ -101,16 +101,9 @@ module _ (k : Shape) (ink n : ℕ) (s : Survey) where
       (next (eastward s x0) _ (λ a. next (northward s y0) _ (λ b. next (eastward s x1) _ (λ c. next (northward s y1) _ (λ d.
       record { tells = line-tells k (cell a b) (cell c d) n })))))
 
-  pub circle-metres-tells : (x y r : Float) → Tells None (metresDrawing k ink s (metres.Circle x y r) .answer n)
-  circle-metres-tells x y r =
-      let next = field k ink n None in
-      in-metres k ink n None s (metres.Circle x y r)
-      (next (eastward s x) _ (λ a. next (northward s y) _ (λ b. next (findLength r (s .size)) _ (λ c.
-      limited k ink n None (isLength radius c) _ (record { tells = ring-tells k (cell a b) _ n })))))
-
   pub ellipse-metres-tells : (x y a b : Float) → Tells None (metresDrawing k ink s (metres.Ellipse x y a b) .answer n)
   ellipse-metres-tells x y a b =
       let next = field k ink n None in
       in-metres k ink n None s (metres.Ellipse x y a b)
       (next (eastward s x) _ (λ i. next (northward s y) _ (λ j. next (findLength a (s .size)) _ (λ c. next (findLength b (s .size)) _ (λ d.
-      limited k ink n None (isLength semiAxis c && isLength semiAxis d) _ (record { tells = ring-tells k (cell i j) _ n }))))))
+      limited k ink n None (areAxes c d) _ (record { tells = ellipse-tells k (cell i j) _ _ n }))))))

@@ -4,7 +4,7 @@ ghost use Rattle.sheet.specs.Sheet.{cell};
 ghost use Rattle.sheet.specs.Drawing.{Draws};
 ghost use Rattle.line.specs.Draw.{lineDrawing};
 ghost use Rattle.line.specs.Listing.{ListsInto};
-ghost use Rattle.ring.specs.Draw.{circleDrawing, ellipseDrawing};
+ghost use Rattle.ring.specs.Draw.{ellipseDrawing};
 ghost use Rattle.curve.specs.Draw.{curveDrawing};
 ghost use Rattle.pistonwool.specs.Told.{shapeOf, numbered, counted, Keeps};
 use crate::tell_cells;
@@ -39,32 +39,7 @@ pub extern "C" fn pw_line(
     tell_cells(line::draw_line(sheet, shape, ink, from, to), cells)
 }
 
-// Draws a circle.
-#[no_mangle]
-pub extern "C" fn pw_circle(
-    sheet: &mut [u8],
-    width: u32,
-    height: u32,
-    pitch: u32,
-    ink: u8,
-    x: i32,
-    y: i32,
-    r: u32,
-) -> u32
-    ensures { λ d. ⌜ Draws (circleDrawing (shapeOf width height pitch) ink (cell x y) r)
-        (now (sheet .entry)) (numbered d) (now (sheet .exit)) ⌝ }
-{
-    let shape = Shape {
-        width,
-        height,
-        pitch,
-    };
-    let centre = Cell { x, y };
-    let reply = ring::draw_circle(sheet, shape, ink, centre, r);
-    reply.number()
-}
-
-// Draws an ellipse.
+// Draws an ellipse; a circle of radius r is that of semi-axes r and r.
 #[no_mangle]
 pub extern "C" fn pw_ellipse(
     sheet: &mut [u8],

@@ -10,13 +10,11 @@ mod metres;
 mod pen;
 mod territory;
 
-pub use cells::pw_circle;
 pub use cells::pw_curve;
 pub use cells::pw_ellipse;
 pub use cells::pw_line;
 pub use cells::pw_list;
 pub use file::pw_file;
-pub use metres::pw_circle_metres;
 pub use metres::pw_ellipse_metres;
 pub use metres::pw_line_metres;
 pub use pen::pw_pen_begin;

@@ -42,36 +42,7 @@ pub extern "C" fn pw_line_metres(
     )
 }
 
-// Draws a circle.
-#[no_mangle]
-pub extern "C" fn pw_circle_metres(
-    sheet: &mut [u8],
-    width: u32,
-    height: u32,
-    pitch: u32,
-    ink: u8,
-    east: f64,
-    north: f64,
-    size: f64,
-    x: f64,
-    y: f64,
-    r: f64,
-) -> u32
-    ensures { λ d. ⌜ Draws (metresDrawing (shapeOf width height pitch) ink (surveyOf east north size) (metres.Circle x y r))
-        (now (sheet .entry)) (numbered d) (now (sheet .exit)) ⌝ }
-{
-    let shape = Shape {
-        width,
-        height,
-        pitch,
-    };
-    let survey = Survey { east, north, size };
-    let figure = Metres::Circle(x, y, r);
-    let reply = drawing::draw_metres(sheet, shape, ink, survey, figure);
-    reply.number()
-}
-
-// Draws an ellipse.
+// Draws an ellipse; a circle as in cells.
 #[no_mangle]
 pub extern "C" fn pw_ellipse_metres(
     sheet: &mut [u8],

@@ -1,4 +1,4 @@
--- Document 01's examples of records: files, what is read at their first byte, and what the whole file answers.
+-- Document 01's examples of records, and document 02's: files, what is read at their first byte, and what the whole file answers.
 use Prim.Native.Nat.{ℕ, _+_, _-_, _≤_}
 use mathlib.Core.Path.{_≡_, refl}
 use mathlib.Core.List.{List, [], _∷_, map}
@@ -7,7 +7,7 @@ use lib.IntN.{pos, negsuc}
 use lib.ListN.{length, length-take, length-drop}
 use Rattle.sheet.specs.Reply.{Answer, done, refuseAt}
 use Rattle.sheet.specs.Sheet as sheet
-use Rattle.sheet.specs.declared.Refusal.the-variants.{Coordinate, Pieces, Short, Kind, Kindless}
+use Rattle.sheet.specs.declared.Refusal.the-variants.{Coordinate, Radius, Pieces, Short, Kind, Kindless}
 use Rattle.record.specs.Layout.{Row, kindWord, wordAt, widths, signed, lineRow, circleRow, ellipseRow, curveRow, table}
 use Rattle.record.specs.Reading.{valuesFrom, limitedFrom, rowFound, kindFound, payloadAt, foundAt, readAt, readAnswer}
 use Rattle.record.specs.File.{readIn, readFrom, readAll, fileAnswer}
@@ -47,6 +47,15 @@ examples =
       whole = done (pos 1 ∷ []);
     }
     ∷ record { file = 9 ∷ 0 ∷ 2 ∷ 0 ∷ 5 ∷ 0 ∷ 64 ∷ 255 ∷ 255 ∷ 3 ∷ 0 ∷ []; first = refuseAt Coordinate 5; whole = refuseAt Coordinate 5 }
+    -- an ellipse with both axes 0 is read, and one with a single 0 refused with 3, at that axis; the first of two bad axes is named
+    ∷ record {
+      file = 11 ∷ 0 ∷ 3 ∷ 0 ∷ 5 ∷ 2 ∷ 0 ∷ 1 ∷ 0 ∷ 0 ∷ 0 ∷ 0 ∷ 0 ∷ [];
+      first = done (pos 0 ∷ pos 13 ∷ pos 3 ∷ pos 5 ∷ pos 2 ∷ pos 1 ∷ pos 0 ∷ pos 0 ∷ []);
+      whole = done (pos 1 ∷ []);
+    }
+    ∷ record { file = 11 ∷ 0 ∷ 3 ∷ 0 ∷ 5 ∷ 2 ∷ 0 ∷ 1 ∷ 0 ∷ 0 ∷ 0 ∷ 4 ∷ 0 ∷ []; first = refuseAt Radius 9; whole = refuseAt Radius 9 }
+    ∷ record { file = 11 ∷ 0 ∷ 3 ∷ 0 ∷ 5 ∷ 2 ∷ 0 ∷ 1 ∷ 0 ∷ 4 ∷ 0 ∷ 0 ∷ 0 ∷ []; first = refuseAt Radius 11; whole = refuseAt Radius 11 }
+    ∷ record { file = 11 ∷ 0 ∷ 3 ∷ 0 ∷ 5 ∷ 2 ∷ 0 ∷ 1 ∷ 0 ∷ 0 ∷ 0 ∷ 0 ∷ 64 ∷ []; first = refuseAt Radius 9; whole = refuseAt Radius 9 }
     -- a curve of s = 6 is read, and one of s = 7 refused with 4, at s
     ∷ record {
       file = 16 ∷ 0 ∷ 4 ∷ 0 ∷ 1 ∷ 0 ∷ 0 ∷ 0 ∷ 0 ∷ 2 ∷ 0 ∷ 4 ∷ 0 ∷ 4 ∷ 0 ∷ 0 ∷ 0 ∷ 6 ∷ [];
@@ -58,7 +67,7 @@ examples =
 
 pub examples-hold : (map (λ (e : Example). readAnswer (e .file) 0) examples ≡ map (λ (e : Example). e .first) examples)
     × (map (λ (e : Example). fileAnswer (e .file)) examples ≡ map (λ (e : Example). e .whole) examples)
-unfolding examples readAnswer fileAnswer readAll readFrom readIn readAt foundAt kindFound rowFound limitedFrom valuesFrom table lineRow circleRow ellipseRow curveRow signed sheet.coordinate
+unfolding examples readAnswer fileAnswer readAll readFrom readIn readAt foundAt kindFound rowFound limitedFrom valuesFrom table lineRow circleRow ellipseRow curveRow signed sheet.coordinate sheet.semiAxis
 examples-hold = (refl, refl)
 
 -- the table's lengths count the kind and the payload

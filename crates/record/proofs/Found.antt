@@ -6,26 +6,26 @@ use mathlib.Core.Bool.{Bool, true, false, cond}
 use native.Mathlib.Omega.{arith}
 use borrow.Author.Tests.{leb-true, leb-false, eqb-true}
 use lib.Dec.{leb, eqb}
-use lib.IntN.{ℤ, natAbs}
-use lib.ListN.{length, length-take, length-drop}
+use lib.ListN.{length, getD, length-take, length-drop}
 use Rattle.sheet.specs.Sheet as sheet
 use Rattle.sheet.specs.declared.Refusal.{Refusal}
-use Rattle.record.specs.Layout.{Field, lengthWord, kindWord, ink, coordinate, radius, axis, pieces, Row, wordAt, width, valueAt, widths, kindPlace, payloadPlace, lineRow, circleRow, ellipseRow, curveRow, table}
-use Rattle.record.specs.Reading.{Found, found, end, refused, unlessAt, valuesFrom, limited, limitedFrom, rowFound, kindFound, payloadAt, foundAt}
+use Rattle.record.specs.Layout.{Field, lengthWord, kindWord, ink, coordinate, radius, axisA, axisB, pieces, Row, wordAt, width, valueAt, widths, kindPlace, payloadPlace, lineRow, circleRow, ellipseRow, curveRow, table}
+use Rattle.record.specs.Reading.{Found, found, end, refused, unlessAt, valuesFrom, axisAt, limited, limitedFrom, rowFound, kindFound, payloadAt, foundAt}
 
--- a field's value within its limits, and those of fields that follow each other from k on
-abbrev pub Limited : Field → ℤ → Type 0
-Limited lengthWord z = Unit {0}
-Limited kindWord z = Unit {0}
-Limited ink z = Unit {0}
-Limited coordinate z = sheet.coordinate z ≡ true
-Limited radius z = sheet.radius (natAbs z) ≡ true
-Limited axis z = sheet.semiAxis (natAbs z) ≡ true
-Limited pieces z = sheet.split (natAbs z) ≡ true
+-- the field at k within its limits, and those that follow each other from k on
+abbrev pub Limited : Field → List ℕ → ℕ → Type 0
+Limited lengthWord p k = Unit {0}
+Limited kindWord p k = Unit {0}
+Limited ink p k = Unit {0}
+Limited coordinate p k = sheet.coordinate (valueAt coordinate p k) ≡ true
+Limited radius p k = axisAt p k k ≡ true
+Limited axisA p k = axisAt p k (k + width axisA) ≡ true
+Limited axisB p k = axisAt p k (k - width axisA) ≡ true
+Limited pieces p k = sheet.split (getD p k 0) ≡ true
 
 unfoldable pub LimitedFrom : List Field → List ℕ → ℕ → Type 0
 LimitedFrom [] p k = Unit {0}
-LimitedFrom (g ∷ fs) p k = Limited g (valueAt g p k) × LimitedFrom fs p (k + width g)
+LimitedFrom (g ∷ fs) p k = Limited g p k × LimitedFrom fs p (k + width g)
 
 has-bytes : (g : Field) → 1 ≤ width g
 has-bytes lengthWord = omega arith
@@ -33,7 +33,8 @@ has-bytes kindWord = omega arith
 has-bytes ink = omega arith
 has-bytes coordinate = omega arith
 has-bytes radius = omega arith
-has-bytes axis = omega arith
+has-bytes axisA = omega arith
+has-bytes axisB = omega arith
 has-bytes pieces = omega arith
 
 -- of a record at an offset, in a file of n bytes: what a refusal names is a byte of the file, at or after the record's first
@@ -45,14 +46,15 @@ module _ (at n : ℕ) (P : Found → Type 0) (no : (r : Refusal) (o : ℕ) → a
   passing : (t : Bool) (r : Refusal) (o : ℕ) (f : Found) → at ≤ o → o < n → (t ≡ true → P f) → P (unlessAt t r o f)
   passing t r o f a b h = by-test t f (refused r o) h (λ e. no r o a b)
 
-  limited-has : (g : Field) (z : ℤ) (o : ℕ) (f : Found) → at ≤ o → o < n → (Limited g z → P f) → P (limited g z o f)
-  limited-has lengthWord z o f a b h = h tt
-  limited-has kindWord z o f a b h = h tt
-  limited-has ink z o f a b h = h tt
-  limited-has coordinate z o f a b h = passing (sheet.coordinate z) _ o f a b h
-  limited-has radius z o f a b h = passing (sheet.radius (natAbs z)) _ o f a b h
-  limited-has axis z o f a b h = passing (sheet.semiAxis (natAbs z)) _ o f a b h
-  limited-has pieces z o f a b h = passing (sheet.split (natAbs z)) _ o f a b h
+  limited-has : (g : Field) (p : List ℕ) (k o : ℕ) (f : Found) → at ≤ o → o < n → (Limited g p k → P f) → P (limited g p k o f)
+  limited-has lengthWord p k o f a b h = h tt
+  limited-has kindWord p k o f a b h = h tt
+  limited-has ink p k o f a b h = h tt
+  limited-has coordinate p k o f a b h = passing (sheet.coordinate (valueAt coordinate p k)) _ o f a b h
+  limited-has radius p k o f a b h = passing (axisAt p k k) _ o f a b h
+  limited-has axisA p k o f a b h = passing (axisAt p k (k + width axisA)) _ o f a b h
+  limited-has axisB p k o f a b h = passing (axisAt p k (k - width axisA)) _ o f a b h
+  limited-has pieces p k o f a b h = passing (sheet.split (getD p k 0)) _ o f a b h
 
   fields-have : (fs : List Field) (p : List ℕ) (k start : ℕ) (f : Found) → at ≤ start → start + k + widths fs ≤ n
       → (LimitedFrom fs p k → P f) → P (limitedFrom fs p k start f)
@@ -60,7 +62,7 @@ module _ (at n : ℕ) (P : Found → Type 0) (no : (r : Refusal) (o : ℕ) → a
   fields-have [] p k start f a b h = h tt
   fields-have (g ∷ fs) p k start f a b h =
       let w = has-bytes g in
-      limited-has g (valueAt g p k) (start + k) _ (omega arith) (omega arith)
+      limited-has g p k (start + k) _ (omega arith) (omega arith)
       (λ l. fields-have fs p (k + width g) start f a (omega arith) (λ m. h (l, m)))
 
   module _ (p : List ℕ) (next : ℕ) (inside : payloadPlace at + length p ≤ n) where

@@ -10,10 +10,9 @@ use Rattle.sheet.specs.Sheet.{coordinate, inLimits}
 use Rattle.sheet.specs.declared.Refusal.{Refusal}
 use Rattle.sheet.specs.declared.Refusal.the-variants.{Coordinate, Radius, Pieces, Length}
 use Rattle.record.specs.Layout.{Row, lineRow, circleRow, ellipseRow, curveRow}
-use Rattle.record.specs.Inner.{cellField, numberField}
+use Rattle.record.specs.Inner.{cellField, axisField, splitField}
 use Rattle.record.specs.declared.CellField.{CellField}
 use Rattle.record.specs.declared.NumberField.{NumberField}
-use Rattle.record.specs.declared.Number.the-variants as number
 use Rattle.record.specs.Reading.{Found, unlessAt, valuesFrom, limitedFrom, rowFound, readOf}
 use Rattle.sheet.specs.declared.Figure.the-variants.{Line, Circle, Ellipse, Curve}
 use Rattle.record.specs.declared.types.Read.{Read}
@@ -55,7 +54,7 @@ module _ (p : List ℕ) (at next : ℕ) where
   unfolding rowFound limitedFrom valuesFrom lineRow inLimits
   line-found a b h e f = rw (e, f) (simp (eq-eqb (2 + length p) 11 (omega arith), in-turn, read-unless))
 
-  pub circle-found : (centre : CellField) (r : NumberField) → length p ≡ 7 → centre ≡ cellField p 1 → r ≡ numberField p 5 number.Radius
+  pub circle-found : (centre : CellField) (r : NumberField) → length p ≡ 7 → centre ≡ cellField p 1 → r ≡ axisField p 5 5
       → readOf (rowFound circleRow p at next) ≡
       cond (centre .sound)
       (cond (r .sound)
@@ -66,7 +65,7 @@ module _ (p : List ℕ) (at next : ℕ) where
   circle-found centre r h e f = rw (e, f) (simp (eq-eqb (2 + length p) 9 (omega arith), in-turn, read-unless))
 
   pub ellipse-found : (centre : CellField) (a b : NumberField) → length p ≡ 9
-      → centre ≡ cellField p 1 → a ≡ numberField p 5 number.SemiAxis → b ≡ numberField p 7 number.SemiAxis
+      → centre ≡ cellField p 1 → a ≡ axisField p 5 7 → b ≡ axisField p 7 5
       → readOf (rowFound ellipseRow p at next) ≡
       cond (centre .sound)
       (cond (a .sound)
@@ -79,7 +78,7 @@ module _ (p : List ℕ) (at next : ℕ) where
   ellipse-found centre a b h e f g = rw (e, f, g) (simp (eq-eqb (2 + length p) 11 (omega arith), in-turn, read-unless))
 
   pub curve-found : (p0 p1 p2 : CellField) (s : NumberField) → length p ≡ 14
-      → p0 ≡ cellField p 1 → p1 ≡ cellField p 5 → p2 ≡ cellField p 9 → s ≡ numberField p 13 number.Split
+      → p0 ≡ cellField p 1 → p1 ≡ cellField p 5 → p2 ≡ cellField p 9 → s ≡ splitField p 13
       → readOf (rowFound curveRow p at next) ≡
       cond (p0 .sound)
       (cond (p1 .sound)

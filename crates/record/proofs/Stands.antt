@@ -4,7 +4,7 @@ use mathlib.Core.Path.{_≡_, refl, sym, subst}
 use mathlib.Core.List.{List}
 use lib.ListN.{length}
 use Rattle.sheet.specs.declared.Refusal.{Refusal}
-use Rattle.sheet.proofs.Figures.{Sound, cell-in}
+use Rattle.sheet.proofs.Figures.{Sound, cell-in, axes-in}
 use Rattle.record.specs.Layout.{Row, wordAt, kindPlace, lineRow, circleRow, ellipseRow, curveRow}
 use Rattle.record.specs.Reading.{Found, refused, valuesFrom, payloadAt, readOf, readAt}
 use Rattle.record.specs.declared.types.Record.{Record}
@@ -30,13 +30,13 @@ module _ (p : List ℕ) where
 
   circle-sound : RowSound circleRow p
   unfolding LimitedFrom valuesFrom circleRow
-  circle-sound l = (cell-in _ _ (l .1 .0) (l .1 .1 .0), l .1 .1 .1 .0)
+  circle-sound l = let r = l .1 .1 .1 .0 in (cell-in _ _ (l .1 .0) (l .1 .1 .0), axes-in _ _ r r)
 
   ellipse-sound : RowSound ellipseRow p
   unfolding LimitedFrom valuesFrom ellipseRow
   ellipse-sound l =
       let a = l .1 .1 .1 in
-      (cell-in _ _ (l .1 .0) (l .1 .1 .0), a .0, a .1 .0)
+      (cell-in _ _ (l .1 .0) (l .1 .1 .0), axes-in _ _ (a .0) (a .1 .0))
 
   curve-sound : RowSound curveRow p
   unfolding LimitedFrom valuesFrom curveRow

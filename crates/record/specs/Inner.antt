@@ -7,11 +7,10 @@ use lib.ListN.{getD}
 use Rattle.sheet.specs.Sheet as sheet
 use Rattle.sheet.specs.declared.Reply.{Reply}
 use Rattle.sheet.specs.declared.Reply.the-variants as reply
-use Rattle.record.specs.Layout.{Field, coordinate, radius, axis, pieces, wordAt, valueAt}
+use Rattle.record.specs.Layout.{coordinate, wordAt, valueAt}
+use Rattle.record.specs.Reading.{axisAt}
 use Rattle.record.specs.declared.CellField.{CellField}
 use Rattle.record.specs.declared.NumberField.{NumberField}
-use Rattle.record.specs.declared.Number.{Number}
-use Rattle.record.specs.declared.Number.the-variants.{Radius, SemiAxis, Split}
 use Rattle.record.specs.declared.types.Read.{Read}
 use Rattle.record.specs.declared.types.Read.the-variants as read
 
@@ -25,16 +24,12 @@ cellField p k =
     let c = sheet.cell (valueAt coordinate p k) (valueAt coordinate p (k + 2)) in
     record { cell = c; sound = sheet.inLimits c; bad = firstBad (c .x) k (k + 2) }
 
--- the field of a kind of number, and the number at a place
-abbrev pub fieldOf : Number → Field
-fieldOf Radius = radius
-fieldOf SemiAxis = axis
-fieldOf Split = pieces
+-- the semi-axis at a place, beside the other at another, and s at a place
+abbrev pub axisField : List ℕ → ℕ → ℕ → NumberField
+axisField p k l = record { number = wordAt p k; sound = axisAt p k l }
 
-abbrev pub numberField : List ℕ → ℕ → Number → NumberField
-numberField p k Radius = record { number = wordAt p k; sound = sheet.radius (wordAt p k) }
-numberField p k SemiAxis = record { number = wordAt p k; sound = sheet.semiAxis (wordAt p k) }
-numberField p k Split = record { number = getD p k 0; sound = sheet.split (getD p k 0) }
+abbrev pub splitField : List ℕ → ℕ → NumberField
+splitField p k = record { number = getD p k 0; sound = sheet.split (getD p k 0) }
 
 -- a read that is no record, after n records
 abbrev pub closedBy : Read → ℕ → Reply

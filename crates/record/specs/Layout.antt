@@ -25,7 +25,8 @@ pub data Field : Type 0 where
   ink : Field
   coordinate : Field
   radius : Field
-  axis : Field
+  axisA : Field
+  axisB : Field
   pieces : Field
 
 abbrev pub width : Field → ℕ
@@ -34,7 +35,8 @@ width kindWord = 2
 width ink = 1
 width coordinate = 2
 width radius = 2
-width axis = 2
+width axisA = 2
+width axisB = 2
 width pieces = 1
 
 abbrev pub valueAt : Field → List ℕ → ℕ → ℤ
@@ -43,7 +45,8 @@ valueAt kindWord s k = pos (wordAt s k)
 valueAt ink s k = pos (getD s k 0)
 valueAt coordinate s k = signed (wordAt s k)
 valueAt radius s k = pos (wordAt s k)
-valueAt axis s k = pos (wordAt s k)
+valueAt axisA s k = pos (wordAt s k)
+valueAt axisB s k = pos (wordAt s k)
 valueAt pieces s k = pos (getD s k 0)
 
 abbrev pub widths : List Field → ℕ
@@ -75,7 +78,7 @@ unfoldable pub circleRow : Row
 circleRow = rowOf 2 9 (ink ∷ coordinate ∷ coordinate ∷ radius ∷ []) (λ v. Circle (cellIn v 1) (numberIn v 3))
 
 unfoldable pub ellipseRow : Row
-ellipseRow = rowOf 3 11 (ink ∷ coordinate ∷ coordinate ∷ axis ∷ axis ∷ []) (λ v. Ellipse (cellIn v 1) (numberIn v 3) (numberIn v 4))
+ellipseRow = rowOf 3 11 (ink ∷ coordinate ∷ coordinate ∷ axisA ∷ axisB ∷ []) (λ v. Ellipse (cellIn v 1) (numberIn v 3) (numberIn v 4))
 
 unfoldable pub curveRow : Row
 curveRow =

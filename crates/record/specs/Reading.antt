@@ -3,14 +3,14 @@ use Prim.Native.Nat.{ℕ, _+_, _-_}
 use mathlib.Core.List.{List, [], _∷_}
 use mathlib.Core.Bool.{Bool, cond}
 use lib.Dec.{leb, eqb}
-use lib.IntN.{ℤ, pos, natAbs}
-use lib.ListN.{length, take, drop}
+use lib.IntN.{ℤ, pos}
+use lib.ListN.{length, getD, take, drop}
 use Rattle.sheet.specs.Sheet as sheet
 use Rattle.sheet.specs.Reply.{Answer, done, refuseAt}
 use Rattle.sheet.specs.Figure.{kindOf, valuesOf, numberIn}
 use Rattle.sheet.specs.declared.Refusal.{Refusal}
 use Rattle.sheet.specs.declared.Refusal.the-variants.{Coordinate, Radius, Pieces, Short, Kind, Length, Kindless}
-use Rattle.record.specs.Layout.{Field, lengthWord, kindWord, ink, coordinate, radius, axis, pieces, Row, wordAt, width, valueAt, kindPlace, payloadPlace, table}
+use Rattle.record.specs.Layout.{Field, lengthWord, kindWord, ink, coordinate, radius, axisA, axisB, pieces, Row, wordAt, width, valueAt, kindPlace, payloadPlace, table}
 use Rattle.record.specs.declared.types.Read.{Read}
 use Rattle.record.specs.declared.types.Read.the-variants.{Record, End, Refused}
 
@@ -30,20 +30,26 @@ unfoldable pub valuesFrom : List Field → List ℕ → ℕ → List ℤ
 valuesFrom [] p k = []
 valuesFrom (f ∷ fs) p k = valueAt f p k ∷ valuesFrom fs p (k + width f)
 
--- a field within its limits, of which only a coordinate may be below 0; else 2 for a coordinate, 3 for a radius or semi-axis, 4 for s
-abbrev pub limited : Field → ℤ → ℕ → Found → Found
-limited lengthWord z at rest = rest
-limited kindWord z at rest = rest
-limited ink z at rest = rest
-limited coordinate z at rest = unlessAt (sheet.coordinate z) Coordinate at rest
-limited radius z at rest = unlessAt (sheet.radius (natAbs z)) Radius at rest
-limited axis z at rest = unlessAt (sheet.semiAxis (natAbs z)) Radius at rest
-limited pieces z at rest = unlessAt (sheet.split (natAbs z)) Pieces at rest
+-- the semi-axis at k beside the other, at l
+abbrev pub axisAt : List ℕ → ℕ → ℕ → Bool
+axisAt p k l = sheet.semiAxis (wordAt p k) (wordAt p l)
+
+-- the field at k within its limits: a radius is both semi-axes, a has b after it, and b has a before it; else 2 for a coordinate, 3 for
+-- a radius or semi-axis, 4 for s
+abbrev pub limited : Field → List ℕ → ℕ → ℕ → Found → Found
+limited lengthWord p k at rest = rest
+limited kindWord p k at rest = rest
+limited ink p k at rest = rest
+limited coordinate p k at rest = unlessAt (sheet.coordinate (valueAt coordinate p k)) Coordinate at rest
+limited radius p k at rest = unlessAt (axisAt p k k) Radius at rest
+limited axisA p k at rest = unlessAt (axisAt p k (k + width axisA)) Radius at rest
+limited axisB p k at rest = unlessAt (axisAt p k (k - width axisA)) Radius at rest
+limited pieces p k at rest = unlessAt (sheet.split (getD p k 0)) Pieces at rest
 
 -- each field from k on in turn, of a payload that starts at an offset: the first that is not within its limits is named
 unfoldable pub limitedFrom : List Field → List ℕ → ℕ → ℕ → Found → Found
 limitedFrom [] p k start rest = rest
-limitedFrom (f ∷ fs) p k start rest = limited f (valueAt f p k) (start + k) (limitedFrom fs p (k + width f) start rest)
+limitedFrom (f ∷ fs) p k start rest = limited f p k (start + k) (limitedFrom fs p (k + width f) start rest)
 
 -- a payload of a row's kind: 10 unless the length, which counts the kind and the payload, is the row's; then its fields
 unfoldable pub rowFound : Row → List ℕ → ℕ → ℕ → Found

@@ -8,13 +8,13 @@ use sheet::Reply;
 pub use types::Read;
 pub use types::Record;
 ghost use mathlib.Core.Path.{_≡_};
-ghost use Prim.Native.Nat.{_+_, _*_, _≤_, _<_};
+ghost use Prim.Native.Nat.{_+_, _*_, _<_};
 ghost use lib.ListN.{length};
 ghost use Rattle.sheet.specs.Reply.{told};
-ghost use Rattle.record.specs.Layout.{wordAt, signed, width, payloadPlace, lineRow, circleRow, ellipseRow, curveRow, table};
+ghost use Rattle.record.specs.Layout.{wordAt, signed, payloadPlace, lineRow, circleRow, ellipseRow, curveRow, table};
 ghost use Rattle.record.specs.Reading.{rowFound, kindFound, readOf, readAt, readAnswer, toldRead};
 ghost use Rattle.record.specs.File.{fileAnswer};
-ghost use Rattle.record.specs.Inner.{firstBad, fieldOf, cellField, numberField, closedBy};
+ghost use Rattle.record.specs.Inner.{firstBad, cellField, axisField, splitField, closedBy};
 
 // A byte, widened.
 fn wide(x: u8) -> u32
@@ -57,16 +57,10 @@ struct CellField {
     bad: usize,
 }
 
-// A number of a payload, and whether it is within the limits of its kind.
+// A number of a payload, and whether it is within its limits.
 struct NumberField {
     number: u32,
     sound: bool,
-}
-
-enum Number {
-    Radius,
-    SemiAxis,
-    Split,
 }
 
 // The place of x where x is outside the limits, else of y.
@@ -95,33 +89,27 @@ fn cell_at(payload: &[u8], place: usize) -> CellField
     }
 }
 
-// The number that stands at a place of the payload.
-fn number_at(payload: &[u8], place: usize, kind: Number) -> NumberField
-    requires { ⌜ place + width (fieldOf kind) ≤ length (now payload) ⌝ }
-    ensures { λ r. ⌜ r ≡ numberField (now (payload .entry)) place kind ⌝ }
+// The semi-axis that stands at a place of the payload, with the other at another; of a circle both are r.
+fn axis_at(payload: &[u8], place: usize, other: usize) -> NumberField
+    requires { ⌜ (place + 1 < length (now payload)) × (other + 1 < length (now payload)) ⌝ }
+    ensures { λ r. ⌜ r ≡ axisField (now (payload .entry)) place other ⌝ }
 {
-    match kind {
-        Number::Radius => {
-            let number = word_at(payload, place);
-            NumberField {
-                number,
-                sound: sheet::is_radius(number),
-            }
-        }
-        Number::SemiAxis => {
-            let number = word_at(payload, place);
-            NumberField {
-                number,
-                sound: sheet::is_semi_axis(number),
-            }
-        }
-        Number::Split => {
-            let number = wide(payload[place]);
-            NumberField {
-                number,
-                sound: sheet::is_split(number),
-            }
-        }
+    let number = word_at(payload, place);
+    NumberField {
+        number,
+        sound: sheet::is_semi_axis(number, word_at(payload, other)),
+    }
+}
+
+// The s that stands at a place of the payload.
+fn split_at(payload: &[u8], place: usize) -> NumberField
+    requires { ⌜ place < length (now payload) ⌝ }
+    ensures { λ r. ⌜ r ≡ splitField (now (payload .entry)) place ⌝ }
+{
+    let number = wide(payload[place]);
+    NumberField {
+        number,
+        sound: sheet::is_split(number),
     }
 }
 
@@ -165,7 +153,7 @@ fn circle(payload: &[u8], at: usize, next: usize) -> Read
     if !c.sound {
         return Read::Refused(Refusal::Coordinate, start + c.bad);
     }
-    let r = number_at(payload, 5, Number::Radius);
+    let r = axis_at(payload, 5, 5);
     if !r.sound {
         return Read::Refused(Refusal::Radius, start + 5);
     }
@@ -191,11 +179,11 @@ fn ellipse(payload: &[u8], at: usize, next: usize) -> Read
     if !c.sound {
         return Read::Refused(Refusal::Coordinate, start + c.bad);
     }
-    let a = number_at(payload, 5, Number::SemiAxis);
+    let a = axis_at(payload, 5, 7);
     if !a.sound {
         return Read::Refused(Refusal::Radius, start + 5);
     }
-    let b = number_at(payload, 7, Number::SemiAxis);
+    let b = axis_at(payload, 7, 5);
     if !b.sound {
         return Read::Refused(Refusal::Radius, start + 7);
     }
@@ -229,7 +217,7 @@ fn curve(payload: &[u8], at: usize, next: usize) -> Read
     if !c.sound {
         return Read::Refused(Refusal::Coordinate, start + c.bad);
     }
-    let s = number_at(payload, 13, Number::Split);
+    let s = split_at(payload, 13);
     if !s.sound {
         return Read::Refused(Refusal::Pieces, start + 13);
     }

@@ -2,8 +2,10 @@
 use Prim.Native.Nat.{ℕ, _*_, _≤_}
 use mathlib.Core.Path.{_≡_, sym, subst}
 use mathlib.Core.Logic.{_⊎_, inl, inr}
-use mathlib.Core.Bool.{Bool, _&&_, _||_}
-use lib.Dec.{T, leb, leb→le, le→leb}
+use mathlib.Core.Bool.{Bool, false, _&&_, _||_}
+use native.Mathlib.Omega.{arith}
+use borrow.Author.Tests.{ne-eqb}
+use lib.Dec.{T, leb, eqb, leb→le, le→leb}
 use lib.IntN.{pos}
 use Rattle.laws.proofs.Tests.{and-l, and-r, and-i, or-l, or-r, or-e, same}
 use Rattle.ring.specs.Ring.{nearest, ellipseRule}
@@ -31,10 +33,12 @@ unfolding columns
 →columns a b x y i =
     and-i (leb x a) (nearest (pos a) (pos b) (pos x) (pos y)) (le→leb x a (i .within)) (→nearest a b x (i .within) y (i .least))
 
--- an ellipse is its columns, and its rows: the columns of the one with the axes exchanged
+-- an ellipse of axes from 1 up is its columns, and its rows: the columns of the one with the axes exchanged
 pub columns-and-rows : (a b : ℕ) → 1 ≤ a → 1 ≤ b → (u v : ℕ) → (columns a b u v || columns b a v u) ≡ ellipseRule a b u v
 unfolding ellipseRule columns
-columns-and-rows a b p q u v = same (columns a b u v || columns b a v u) (leb u a && leb v b && (C || R)) to from
+columns-and-rows a b p q u v =
+    let e : eqb a 0 ≡ false = ne-eqb a 0 (λ f. omega arith) in
+    simp e (same (columns a b u v || columns b a v u) (leb u a && leb v b && (C || R)) to from)
   where
     C : Bool
     C = nearest (pos a) (pos b) (pos u) (pos v)
@@ -88,3 +92,8 @@ module _ (a b : ℕ) (h : 1 ≤ a) (k : 1 ≤ b) (x y : ℕ) where
 pub ellipse-within : (a b x y : ℕ) → T (ellipseRule a b x y) → (x ≤ a) × (y ≤ b)
 unfolding ellipseRule
 ellipse-within a b x y t = (search (leb→le, and-l, and-r), search (leb→le, and-l, and-r))
+
+-- with both axes 0 it has its centre
+pub ellipse-zero : (x y : ℕ) → x ≡ 0 → y ≡ 0 → T (ellipseRule 0 0 x y)
+unfolding ellipseRule
+ellipse-zero x y e f = rw (e, f) tt

@@ -1,7 +1,8 @@
--- A circle from radius 1 up is the ellipse of equal axes; of radius 0 it is its centre.
+-- A circle is the ellipse of equal axes; of radius 0 both are the centre.
 use Prim.Native.Nat.{ℕ, zero, suc, _+_, _-_, _*_, _≤_, _<_}
-use mathlib.Core.Path.{_≡_, refl, sym, subst, ap, _∙_}
+use mathlib.Core.Path.{_≡_, refl, sym, subst, _∙_}
 use mathlib.Core.Logic.{_⊎_, inl, inr, ⊎-elim}
+use mathlib.Core.List.{List}
 use mathlib.Core.Bool.{Bool, false, _&&_, _||_}
 use native.Mathlib.Omega.{arith}
 use native.Mathlib.Nat.{mul-le-mul-left, lt-of-mul-lt-mul-left, le-of-mul-le-mul-left}
@@ -9,20 +10,20 @@ use borrow.Author.Tests.{le-ltb, le-leb}
 use lib.Dec.{T, leb, eqb, leb→le, le→leb, eqb→eq, eqb·suc-zero}
 use lib.IntN.{ℤ, pos, _-ℤ_}
 use lib.Signed.{leZ, ltZ}
-use Rattle.laws.proofs.Apart.{apart-same, apart-zero}
 use Rattle.laws.proofs.Parts.{up, dn}
 use Rattle.laws.proofs.Ints.{parts, le-parts, lt-parts, to-leZ, to-ltZ}
 use Rattle.laws.proofs.Products.{lt-or-ge, sq-le, sq-lt-back}
 use Rattle.laws.proofs.Tests.{and-l, and-r, and-i, or-l, or-r, or-e, same}
 use Rattle.sheet.specs.Chain.{wide, tall}
-use Rattle.sheet.specs.Sheet.{isCell}
+use Rattle.sheet.specs.Sheet.{cellOf, paint}
 use Rattle.sheet.specs.declared.Cell.{Cell}
-use Rattle.sheet.proofs.Cells.{is-cell→, is-cell-refl}
-use Rattle.ring.specs.Ring.{around, inEighth, circleRule, ellipseRule}
+use Rattle.sheet.specs.declared.Shape.{Shape}
+use Rattle.sheet.proofs.Paint.{paint-as}
+use Rattle.ring.specs.Ring.{around, ellipseRule, onEllipse}
+use Rattle.ring.specs.Circle.{inEighth, circleRule, onCircle, CircleIsEllipse}
 use Rattle.ring.proofs.Least.{edge, Least}
 use Rattle.ring.proofs.Reach.{reach}
-use Rattle.ring.proofs.Columns.{columns, InColumns, columns→, →columns, columns-and-rows, ellipse-within}
-use Rattle.ring.proofs.Offsets.{isOffset, offset→, →offset}
+use Rattle.ring.proofs.Columns.{columns, InColumns, columns→, →columns, columns-and-rows, ellipse-within, ellipse-zero}
 
 -- what the rule says of an offset (x, y) with y = j + 1
 record Eighth (r x j : ℕ) : Type 0 where
@@ -139,10 +140,9 @@ module _ (r : ℕ) (h : 1 ≤ r) where
       let k : x < r = sq-lt-back x r (omega (arith, i .low)) in
       →columns r r x (suc j) (record { within = omega arith; least = eighth-least r x j h (omega arith) i })
 
-  -- an ellipse of equal axes is the circle
-  pub circle-is-ellipse : (u v : ℕ) → ellipseRule r r u v ≡ circleRule r u v
+  from-one : (u v : ℕ) → ellipseRule r r u v ≡ circleRule r u v
   unfolding circleRule
-  circle-is-ellipse u v = sym (columns-and-rows r r h h u v) ∙ same (columns r r u v || columns r r v u) (E || F) to from
+  from-one u v = sym (columns-and-rows r r h h u v) ∙ same (columns r r u v || columns r r v u) (E || F) to from
     where
       E : Bool
       E = inEighth (pos r) (pos u) (pos v)
@@ -164,44 +164,44 @@ module _ (r : ℕ) (h : 1 ≤ r) where
             | inr t ↦ or-r (columns r r u v) (columns r r v u) (of-eighth v u t)
           ]
 
--- the circle of radius 0 is its centre
-pub circle-is-centre : (u v : ℕ) → isOffset 0 0 u v ≡ circleRule 0 u v
+-- the circle of radius 0 is its centre, as the ellipse of both axes 0 is
+circle-zero : (u v : ℕ) → u ≡ 0 → v ≡ 0 → T (circleRule 0 u v)
+unfolding circleRule inEighth
+circle-zero u v e f = rw (e, f) tt
+
+of-zero : (u v : ℕ) → ellipseRule 0 0 u v ≡ circleRule 0 u v
 unfolding circleRule
-circle-is-centre u v = same (isOffset 0 0 u v) (inEighth (pos 0) (pos u) (pos v) || inEighth (pos 0) (pos v) (pos u)) to from
+of-zero u v = same (ellipseRule 0 0 u v) (inEighth (pos 0) (pos u) (pos v) || inEighth (pos 0) (pos v) (pos u)) to from
   where
     at : (x y : ℕ) → T (inEighth (pos 0) (pos x) (pos y)) → (x ≡ 0) × (y ≡ 0)
     at x zero t = (eighth-zero 0 x t .0, refl)
     at x (suc j) t = absurd (omega (arith, eighth→ 0 x j t .low))
 
-    to : T (isOffset 0 0 u v) → T (inEighth (pos 0) (pos u) (pos v) || inEighth (pos 0) (pos v) (pos u))
-    to t = let e = offset→ 0 0 u v t in unfold inEighth in rw (e .0, e .1) tt
+    to : T (ellipseRule 0 0 u v) → T (inEighth (pos 0) (pos u) (pos v) || inEighth (pos 0) (pos v) (pos u))
+    to t =
+        let w = ellipse-within 0 0 u v t in
+        circle-zero u v (omega arith) (omega arith)
 
-    from : T (inEighth (pos 0) (pos u) (pos v) || inEighth (pos 0) (pos v) (pos u)) → T (isOffset 0 0 u v)
+    from : T (inEighth (pos 0) (pos u) (pos v) || inEighth (pos 0) (pos v) (pos u)) → T (ellipseRule 0 0 u v)
     from t =
         elim (or-e (inEighth (pos 0) (pos u) (pos v)) (inEighth (pos 0) (pos v) (pos u)) t) [
-          | inl t ↦ let e = at u v t in →offset 0 0 u v (e .0) (e .1)
-          | inr t ↦ let e = at v u t in →offset 0 0 u v (e .1) (e .0)
+          | inl t ↦ let e = at u v t in ellipse-zero u v (e .0) (e .1)
+          | inr t ↦ let e = at v u t in ellipse-zero u v (e .1) (e .0)
         ]
 
-pub centre-alone : (c d : Cell) → isCell c d ≡ around c (circleRule 0) d
-unfolding around
-centre-alone c d = same (isCell c d) (circleRule 0 (wide c d) (tall c d)) to from
-  where
-    to : T (isCell c d) → T (circleRule 0 (wide c d) (tall c d))
-    to t =
-        let e = is-cell→ c d t in
-        let x : wide c d ≡ 0 = ap (λ (m : Cell). wide c m) e ∙ apart-same (c .x) in
-        let y : tall c d ≡ 0 = ap (λ (m : Cell). tall c m) e ∙ apart-same (c .y) in
-        subst T (circle-is-centre (wide c d) (tall c d)) (→offset 0 0 (wide c d) (tall c d) x y)
+-- the two rules are one, for every radius
+equal-axes : (r u v : ℕ) → ellipseRule r r u v ≡ circleRule r u v
+equal-axes zero u v = of-zero u v
+equal-axes (suc r) u v = from-one (suc r) (omega arith) u v
 
-    from : T (circleRule 0 (wide c d) (tall c d)) → T (isCell c d)
-    from t =
-        let e = offset→ 0 0 (wide c d) (tall c d) (subst T (sym (circle-is-centre (wide c d) (tall c d))) t) in
-        let x = apart-zero (c .x) (d .x) (e .0) in
-        let y = apart-zero (c .y) (d .y) (e .1) in
-        subst (λ (m : Cell). T (isCell c m)) (λ i. record { x = x i; y = y i }) (is-cell-refl c)
+pub circle-is-ellipse : CircleIsEllipse
+unfolding around
+circle-is-ellipse c r d = equal-axes r (wide c d) (tall c d)
 
 -- a circle's cells are within its radius
 pub circle-within : (r x y : ℕ) → T (circleRule r x y) → (x ≤ r) × (y ≤ r)
-circle-within zero x y t = let e = offset→ 0 0 x y (subst T (sym (circle-is-centre x y)) t) in (omega arith, omega arith)
-circle-within (suc r) x y t = ellipse-within (suc r) (suc r) x y (subst T (sym (circle-is-ellipse (suc r) (omega arith) x y)) t)
+circle-within r x y t = ellipse-within r r x y (subst T (sym (equal-axes r x y)) t)
+
+-- so drawing equal axes paints the circle
+pub circle-painted : (k : Shape) (ink : ℕ) (c : Cell) (r : ℕ) (s : List ℕ) → paint k ink (onEllipse c r r) s ≡ paint k ink (onCircle c r) s
+circle-painted k ink c r s = paint-as k ink (onEllipse c r r) (onCircle c r) s (λ i j _ _. circle-is-ellipse c r (cellOf i j))

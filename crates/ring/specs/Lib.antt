@@ -1,4 +1,5 @@
 pub mod Ring
+pub mod Circle
 pub mod Draw
 pub mod Holes
 pub mod Inner

@@ -1,6 +1,7 @@
--- Document 01, "Circles and ellipses", with the ellipse of document 02, K4.
+-- Document 01, "Circles and ellipses", with K4 and K10 of document 02: the ellipse, of which the circle is that of equal axes.
 use Prim.Native.Nat.{ℕ}
 use mathlib.Core.Bool.{Bool, _&&_, _||_}
+use lib.Dec.{eqb}
 use lib.IntN.{ℤ, pos, _+ℤ_, _-ℤ_, _*ℤ_}
 use lib.Signed.{leZ, ltZ}
 use Rattle.laws.specs.Equal.{eqZ}
@@ -15,23 +16,6 @@ around c rule d = rule (wide c d) (tall c d)
 abbrev pub sq : ℤ → ℤ
 sq z = z *ℤ z
 
--- x ≤ y and either y ≥ 1 and y(y − 1) < r² − x² ≤ y(y + 1), or y = 0 and r = 0
-unfoldable pub inEighth : ℤ → ℤ → ℤ → Bool
-inEighth r x y =
-    leZ x y
-    && ((leZ (pos 1) y
-    && ltZ (y *ℤ (y -ℤ pos 1)) (sq r -ℤ sq x)
-    && leZ (sq r -ℤ sq x) (y *ℤ (y +ℤ pos 1)))
-    || (eqZ y (pos 0) && eqZ r (pos 0)))
-
--- (x, y) or (y, x) is such
-unfoldable pub circleRule : ℕ → ℕ → ℕ → Bool
-circleRule r x y = inEighth (pos r) (pos x) (pos y) || inEighth (pos r) (pos y) (pos x)
-
--- Circle of radius r.
-abbrev pub onCircle : Cell → ℕ → Cell → Bool
-onCircle c r = around c (circleRule r)
-
 -- column rule: 4b²(a² − x²) < a²(2y + 1)², and y = 0 or a²(2y − 1)² ≤ 4b²(a² − x²): the cell is nearest in its column
 unfoldable pub nearest : ℤ → ℤ → ℤ → ℤ → Bool
 nearest a b x y =
@@ -39,12 +23,12 @@ nearest a b x y =
     && (eqZ y (pos 0)
     || leZ (sq a *ℤ sq (pos 2 *ℤ y -ℤ pos 1)) (pos 4 *ℤ sq b *ℤ (sq a -ℤ sq x)))
 
--- x ≤ a, y ≤ b, and the cell is nearest in its column or nearest in its row: the column rule with the axes exchanged
+-- x ≤ a and y ≤ b, and both axes are 0, or the cell is nearest in its column or in its row: the column rule with the axes exchanged
 unfoldable pub ellipseRule : ℕ → ℕ → ℕ → ℕ → Bool
 ellipseRule a b x y =
     leZ (pos x) (pos a)
     && leZ (pos y) (pos b)
-    && (nearest (pos a) (pos b) (pos x) (pos y) || nearest (pos b) (pos a) (pos y) (pos x))
+    && ((eqb a 0 && eqb b 0) || nearest (pos a) (pos b) (pos x) (pos y) || nearest (pos b) (pos a) (pos y) (pos x))
 
 -- Ellipse of semi-axes a, b.
 abbrev pub onEllipse : Cell → ℕ → ℕ → Cell → Bool

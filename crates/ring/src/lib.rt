@@ -1,12 +1,13 @@
-// Circles and ellipses.
+// Ellipses; a circle is one of equal axes.
 ghost use mathlib.Core.Path.{_≡_};
+ghost use mathlib.Core.Bool.{true};
 ghost use Prim.Native.Nat.{_-_, _≤_, _<_, min, max};
-ghost use Rattle.sheet.specs.Sheet.{paint};
+ghost use Rattle.sheet.specs.Sheet.{paint, axes};
 ghost use Rattle.sheet.specs.Reply.{told};
 ghost use Rattle.sheet.specs.Drawing.{Draws};
 ghost use Rattle.sheet.specs.Inner.{unmovedCell, Sheet};
-ghost use Rattle.ring.specs.Ring.{around, circleRule, ellipseRule};
-ghost use Rattle.ring.specs.Draw.{circleDrawing, ellipseDrawing};
+ghost use Rattle.ring.specs.Ring.{around, ellipseRule};
+ghost use Rattle.ring.specs.Draw.{ellipseDrawing};
 ghost use Rattle.ring.specs.Inner.{Centred, Axis, Placing};
 
 mod front;
@@ -95,37 +96,19 @@ fn ellipse_on(sheet: &mut [u8], shape: Shape, ink: u8, centre: Spot, a: usize, b
     rows_about(sheet, shape, ink, ring, from, to);
 }
 
-// Inks the circle about the centre: from radius 1 up it is the ellipse of equal axes.
-fn circle_on(sheet: &mut [u8], shape: Shape, ink: u8, centre: Spot, r: usize)
-    requires { ⌜ Sheet shape (now sheet) × Centred centre × (r ≤ 16383) ⌝ }
-    ensures { λ _. ⌜ now (sheet .exit) ≡ paint shape ink (around (unmovedCell centre) (circleRule r)) (now (sheet .entry)) ⌝ }
+// Inks the ring about the centre: its centre alone, where both axes are 0.
+fn ring_on(sheet: &mut [u8], shape: Shape, ink: u8, centre: Spot, a: usize, b: usize)
+    requires { ⌜ Sheet shape (now sheet) × Centred centre × (axes a b ≡ true) ⌝ }
+    ensures { λ _. ⌜ now (sheet .exit) ≡ paint shape ink (around (unmovedCell centre) (ellipseRule a b)) (now (sheet .entry)) ⌝ }
 {
-    if r == 0 {
+    if a == 0 {
         sheet::ink_at(sheet, shape, ink, centre);
     } else {
-        ellipse_on(sheet, shape, ink, centre, r, r);
+        ellipse_on(sheet, shape, ink, centre, a, b);
     }
 }
 
-// Draws the circle of radius r about the centre.
-pub fn draw_circle(sheet: &mut [u8], shape: Shape, ink: u8, centre: Cell, r: u32) -> Reply
-    ensures { λ d. ⌜ Draws (circleDrawing shape ink centre r) (now (sheet .entry)) (told d) (now (sheet .exit)) ⌝ }
-{
-    let tested = sheet::check(shape, sheet.len());
-    if !tested.is_done() {
-        return tested;
-    }
-    if !sheet::in_limits(centre) {
-        return Reply::Refused(Refusal::Coordinate);
-    }
-    if !sheet::is_radius(r) {
-        return Reply::Refused(Refusal::Radius);
-    }
-    circle_on(sheet, shape, ink, sheet::lift_cell(centre), r as usize);
-    Reply::Done
-}
-
-// Draws the ellipse of semi-axes a and b about the centre.
+// Draws the ellipse of semi-axes a and b about the centre; of equal axes it is the circle of that radius.
 pub fn draw_ellipse(sheet: &mut [u8], shape: Shape, ink: u8, centre: Cell, a: u32, b: u32) -> Reply
     ensures { λ r. ⌜ Draws (ellipseDrawing shape ink centre a b) (now (sheet .entry)) (told r) (now (sheet .exit)) ⌝ }
 {
@@ -136,10 +119,10 @@ pub fn draw_ellipse(sheet: &mut [u8], shape: Shape, ink: u8, centre: Cell, a: u3
     if !sheet::in_limits(centre) {
         return Reply::Refused(Refusal::Coordinate);
     }
-    if !(sheet::is_semi_axis(a) & sheet::is_semi_axis(b)) {
+    if !sheet::are_axes(a, b) {
         return Reply::Refused(Refusal::Radius);
     }
-    ellipse_on(
+    ring_on(
         sheet,
         shape,
         ink,

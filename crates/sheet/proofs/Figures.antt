@@ -5,7 +5,7 @@ use mathlib.Core.List.{List}
 use mathlib.Core.Bool.{true, cond}
 use lib.Dec.{eqb}
 use lib.IntN.{ℤ}
-use Rattle.sheet.specs.Sheet.{coordinate, inLimits, radius, semiAxis, split, cell}
+use Rattle.sheet.specs.Sheet.{coordinate, inLimits, semiAxis, axes, split, cell}
 use Rattle.sheet.specs.Figure.{kindOf, valuesOf, cellIn, numberIn}
 use Rattle.sheet.specs.declared.Figure.{Figure}
 use Rattle.sheet.specs.declared.Figure.the-variants.{Line, Circle, Ellipse, Curve}
@@ -27,10 +27,13 @@ figure-of (Curve p q r s) = refl
 -- no drawing refuses the figure for its fields
 abbrev pub Sound : Figure → Type 0
 Sound (Line a b) = (inLimits a ≡ true) × (inLimits b ≡ true)
-Sound (Circle c r) = (inLimits c ≡ true) × (radius r ≡ true)
-Sound (Ellipse c a b) = (inLimits c ≡ true) × (semiAxis a ≡ true) × (semiAxis b ≡ true)
+Sound (Circle c r) = (inLimits c ≡ true) × (axes r r ≡ true)
+Sound (Ellipse c a b) = (inLimits c ≡ true) × (axes a b ≡ true)
 Sound (Curve p q r s) = (inLimits p ≡ true) × (inLimits q ≡ true) × (inLimits r ≡ true) × (split s ≡ true)
 
 pub cell-in : (x y : ℤ) → coordinate x ≡ true → coordinate y ≡ true → inLimits (cell x y) ≡ true
 unfolding inLimits
 cell-in x y a b = simp (a, b)
+
+pub axes-in : (a b : ℕ) → semiAxis a b ≡ true → semiAxis b a ≡ true → axes a b ≡ true
+axes-in a b e f = simp (e, f)

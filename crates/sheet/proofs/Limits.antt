@@ -1,13 +1,13 @@
 -- The limits, as the code meets them: a slice that fits, a coordinate on the moved plane.
-use Prim.Native.Nat.{ℕ, _+_, _-_, _*_, _≤_, _<_}
+use Prim.Native.Nat.{ℕ, zero, suc, _+_, _-_, _*_, _≤_, _<_}
 use mathlib.Core.Path.{_≡_, refl, subst, ap, _∙_}
 use mathlib.Core.List.{List}
-use mathlib.Core.Bool.{true, false, _&&_}
+use mathlib.Core.Bool.{Bool, true, false, not, Bool·beq, _&&_, _||_}
 use native.Mathlib.Omega.{arith}
 use native.Mathlib.Nat.{mul-le-mul}
 use borrow.Author.Tests.{le-leb, eq-eqb}
 use lib.ListN.{length}
-use lib.Dec.{T, eqb, leb→le, eqb→eq}
+use lib.Dec.{T, leb, eqb, leb→le, eqb→eq, eqb·suc-zero}
 use lib.IntN.{ℤ, pos, negsuc}
 use lib.Signed.{leZ}
 use mir.Syntax.{w32}
@@ -16,7 +16,7 @@ use mir.Facts.{toZ-ofZ}
 use Rattle.laws.proofs.Parts.{up, dn}
 use Rattle.laws.proofs.Ints.{le-parts, one-zero, parts, to-≡ℤ, is-leZ, no-leZ}
 use Rattle.laws.proofs.Tests.{and-l, and-r, from-true, halves}
-use Rattle.sheet.specs.Sheet.{size, pitched, sized, bytes, sliced, coordinate, inLimits, cellOf}
+use Rattle.sheet.specs.Sheet.{size, pitched, sized, bytes, sliced, coordinate, inLimits, semiAxis, axes, cellOf}
 use Rattle.sheet.specs.Inner.{moved, unmoved, movedCell, unmovedCell, lowered, loweredCell, Moved, fits, Sheet, Disjoint}
 use Rattle.sheet.specs.declared.Cell.{Cell}
 use Rattle.sheet.specs.declared.Shape.{Shape}
@@ -197,3 +197,22 @@ lowered-moved z e =
     let f = moved-is z e in
     let k = lift-in z (moved z) e refl in
     lowered-is (moved z) (k .inside .least) (k .inside .most) ∙ k .stands
+
+-- two semi-axes are within their limits where neither is above 16,383 and the one is 0 exactly where the other is
+zero-not : (n : ℕ) → eqb n 0 ≡ not (leb 1 n)
+zero-not zero = refl
+zero-not (suc n) = simp (eqb·suc-zero, le-leb 1 (suc n) (omega arith))
+
+both-or-neither : (a b p q : Bool) → ((a && b) && Bool·beq (not p) (not q)) ≡ ((a && (p || not q)) && (b && (q || not p)))
+both-or-neither false b p q = refl
+both-or-neither true false true q = refl
+both-or-neither true false false true = refl
+both-or-neither true false false false = refl
+both-or-neither true true true true = refl
+both-or-neither true true true false = refl
+both-or-neither true true false true = refl
+both-or-neither true true false false = refl
+
+pub axes-are : (a b : ℕ) → ((leb a 16383 && leb b 16383) && Bool·beq (eqb a 0) (eqb b 0)) ≡ axes a b
+unfolding semiAxis
+axes-are a b = simp (zero-not a, zero-not b) (both-or-neither (leb a 16383) (leb b 16383) (leb 1 a) (leb 1 b))

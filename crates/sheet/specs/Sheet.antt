@@ -1,7 +1,7 @@
 -- Document 01, "The sheet", with the pitch of document 02, K5.
 use Prim.Native.Nat.{ℕ, suc, _+_, _*_, _/_, _%_}
 use mathlib.Core.List.{List, [], _∷_}
-use mathlib.Core.Bool.{Bool, cond, _&&_}
+use mathlib.Core.Bool.{Bool, cond, _&&_, _||_}
 use lib.Dec.{leb, eqb}
 use lib.IntN.{ℤ, pos, negℤ, natAbs}
 use lib.Signed.{leZ, ltZ}
@@ -69,12 +69,12 @@ coordinate z = leZ (negℤ (pos 16384)) z && leZ z (pos 16383)
 unfoldable pub inLimits : Cell → Bool
 inLimits c = coordinate (c .x) && coordinate (c .y)
 
--- Circle radius is 0 to 16,383; each ellipse semi-axis is 1 to 16,383.
-abbrev pub radius : ℕ → Bool
-radius r = leb r 16383
+-- A semi-axis is 0 to 16,383, and 0 only where the other is 0 too (document 02, K10); a circle's radius is both its semi-axes.
+unfoldable pub semiAxis : ℕ → ℕ → Bool
+semiAxis n other = leb n 16383 && (leb 1 n || eqb other 0)
 
-unfoldable pub semiAxis : ℕ → Bool
-semiAxis a = leb 1 a && leb a 16383
+abbrev pub axes : ℕ → ℕ → Bool
+axes a b = semiAxis a b && semiAxis b a
 
 -- A curve is split into n = 2^s pieces, s from 0 to 6.
 abbrev pub split : ℕ → Bool

@@ -1,7 +1,7 @@
 // The sheet, the table of refusals, and marking: what every figure stands on.
 ghost use mathlib.Core.Path.{_≡_};
 ghost use mathlib.Core.List.{[]};
-ghost use Rattle.sheet.specs.Sheet.{size, pitched, coordinate, inLimits, radius, semiAxis, split};
+ghost use Rattle.sheet.specs.Sheet.{size, pitched, coordinate, inLimits, semiAxis, axes, split};
 ghost use Rattle.sheet.specs.Reply.{number, done, told, isDone, valueOf};
 ghost use Rattle.sheet.specs.Drawing.{ifSheet, Draws, markDrawing};
 ghost use Rattle.sheet.specs.Inner.{moved, lowered, movedCell, unmovedCell, loweredCell, inkedAt};
@@ -174,23 +174,23 @@ impl Cell {
     pub const MOST: i32 = 16383;
 }
 
-// Whether a coordinate, a radius, a semi-axis and s are within their limits.
+// Whether a coordinate, a semi-axis beside the other, both semi-axes, and s are within their limits.
 pub fn is_coordinate(z: i32) -> bool
     ensures { λ r. ⌜ r ≡ coordinate z ⌝ }
 {
     (Cell::LEAST <= z) & (z <= Cell::MOST)
 }
 
-pub fn is_radius(n: u32) -> bool
-    ensures { λ r. ⌜ r ≡ radius n ⌝ }
+pub fn is_semi_axis(n: u32, other: u32) -> bool
+    ensures { λ r. ⌜ r ≡ semiAxis n other ⌝ }
 {
-    n <= 16383
+    (n <= 16383) & ((1 <= n) | (other == 0))
 }
 
-pub fn is_semi_axis(n: u32) -> bool
-    ensures { λ r. ⌜ r ≡ semiAxis n ⌝ }
+pub fn are_axes(a: u32, b: u32) -> bool
+    ensures { λ r. ⌜ r ≡ axes a b ⌝ }
 {
-    (1 <= n) & (n <= 16383)
+    (a <= 16383) & (b <= 16383) & ((a == 0) == (b == 0))
 }
 
 pub fn is_split(n: u32) -> bool

@@ -1,15 +1,15 @@
--- Document 01, "Checked examples": those in metres, in one table, with a cell too far and a semi-axis below zero.
+-- Document 01, "Checked examples": those in metres, in one table, with a cell too far, a semi-axis below zero, both 0 and one.
 use mathlib.Core.Path.{_≡_, refl, sym}
 use mathlib.Core.List.{List, [], _∷_}
-use mathlib.Core.Bool.{true, false, _&&_}
+use mathlib.Core.Bool.{true, false}
 use lib.Dec.{T}
 use lib.IntN.{ℤ, pos, negsuc, negℤ, natAbs}
 use lib.Ieee.{Float, binary64, ofInt, neg, sub, div, le, lt}
-use Rattle.sheet.specs.Sheet.{coordinate, radius, semiAxis}
+use Rattle.sheet.specs.Sheet.{coordinate, semiAxis}
 use Rattle.sheet.specs.Reply.{Answer, done, refuse}
 use Rattle.sheet.specs.declared.Refusal.the-variants as refusal
 use Rattle.survey.specs.Cell.{isCellOf, findCell}
-use Rattle.survey.specs.Metres.{sound, eastward, northward, findLength, isLength, inCells, toldInCells}
+use Rattle.survey.specs.Metres.{sound, eastward, northward, findLength, areAxes, inCells, toldInCells}
 use Rattle.survey.specs.declared.Found.the-variants.{At, NoCell}
 use Rattle.survey.specs.declared.Survey.{Survey}
 use Rattle.survey.specs.declared.Metres.{Metres}
@@ -44,8 +44,12 @@ abbrev pub table : List Row
 table =
     row (square (metres (pos 1000)) (metres (pos 25))) (Line (half (pos 2125)) (metres (pos 1000)) (metres (pos 999)) (metres (pos 1000)))
     (done (pos 1 ∷ pos 2 ∷ pos 0 ∷ negℤ (pos 1) ∷ pos 0 ∷ []))
-    ∷ row (square (metres (pos 0)) (metres (pos 25))) (Circle minusZero minusZero (metres (pos 60))) (done (pos 2 ∷ pos 0 ∷ pos 0 ∷ pos 2 ∷ []))
+    ∷ row (square (metres (pos 0)) (metres (pos 25))) (Circle minusZero minusZero (metres (pos 60))) (done (pos 3 ∷ pos 0 ∷ pos 0 ∷ pos 2 ∷ pos 2 ∷ []))
     ∷ row (square (metres (pos 0)) (metres (pos 25))) (Ellipse minusZero minusZero (metres (pos 75)) (metres (negℤ (pos 1))))
+    (refuse refusal.Radius)
+    ∷ row (square (metres (pos 0)) (metres (pos 25))) (Ellipse minusZero minusZero (metres (pos 0)) (metres (pos 0)))
+    (done (pos 3 ∷ pos 0 ∷ pos 0 ∷ pos 0 ∷ pos 0 ∷ []))
+    ∷ row (square (metres (pos 0)) (metres (pos 25))) (Ellipse minusZero minusZero (metres (pos 0)) (metres (pos 75)))
     (refuse refusal.Radius)
     ∷ row (square (metres (pos 0)) (metres (pos 25))) (Circle (metres (pos 409600)) minusZero (metres (pos 60))) (refuse refusal.NoCell)
     ∷ row (square (metres (pos 0)) (metres (pos 0))) (Circle minusZero minusZero (metres (pos 60))) (refuse refusal.Survey)
@@ -67,22 +71,27 @@ module _ (s : Survey) (ok : sound s ≡ true) where
   unfolding inCells
   line-told x0 y0 x1 y1 i j k l a b c d = simp (ok, a, b, c, d)
 
-  circle-told : (x y r : Float) (i j k : ℤ) → eastward s x ≡ At i → northward s y ≡ At j → findLength r (s .size) ≡ At k → isLength radius k ≡ true
-      → toldInCells (inCells s (Circle x y r)) ≡ done (pos 2 ∷ i ∷ j ∷ pos (natAbs k) ∷ [])
+  ellipse-told : (x y m n : Float) (i j k l : ℤ) → eastward s x ≡ At i → northward s y ≡ At j → findLength m (s .size) ≡ At k → findLength n (s .size) ≡ At l
+      → areAxes k l ≡ true → toldInCells (inCells s (Ellipse x y m n)) ≡ done (pos 3 ∷ i ∷ j ∷ pos (natAbs k) ∷ pos (natAbs l) ∷ [])
   unfolding inCells
-  circle-told x y r i j k a b c l = simp (ok, a, b, c, l)
+  ellipse-told x y m n i j k l a b c d e = simp (ok, a, b, c, d, e)
 
   ellipse-refused : (x y m n : Float) (i j k l : ℤ) → eastward s x ≡ At i → northward s y ≡ At j → findLength m (s .size) ≡ At k → findLength n (s .size) ≡ At l
-      → (isLength semiAxis k && isLength semiAxis l) ≡ false → toldInCells (inCells s (Ellipse x y m n)) ≡ refuse refusal.Radius
+      → areAxes k l ≡ false → toldInCells (inCells s (Ellipse x y m n)) ≡ refuse refusal.Radius
   unfolding inCells
   ellipse-refused x y m n i j k l a b c d e = simp (ok, a, b, c, d, e)
+
+  circle-told : (x y r : Float) (i j k : ℤ) → eastward s x ≡ At i → northward s y ≡ At j → findLength r (s .size) ≡ At k
+      → areAxes k k ≡ true → toldInCells (inCells s (Circle x y r)) ≡ done (pos 3 ∷ i ∷ j ∷ pos (natAbs k) ∷ pos (natAbs k) ∷ [])
+  unfolding inCells
+  circle-told x y r i j k a b c e = simp (ok, a, b, c, e)
 
   circle-refused : (x y r : Float) → eastward s x ≡ NoCell → toldInCells (inCells s (Circle x y r)) ≡ refuse refusal.NoCell
   unfolding inCells
   circle-refused x y r a = simp (ok, a)
 
 pub examples : Hold table
-unfolding inCells sound isLength semiAxis coordinate isCellOf neg sub div ofInt le lt
+unfolding inCells sound areAxes semiAxis coordinate isCellOf neg sub div ofInt le lt
 examples =
     let km = metres (pos 1000) in
     let zero = metres (pos 0) in
@@ -99,5 +108,8 @@ examples =
     let three = cell-is (div binary64 (metres (pos 75)) size) (pos 3) tt tt in
     let below = cell-is (div binary64 (metres (negsuc 0)) size) (negsuc 0) tt tt in
     let ellipse = ellipse-refused home refl minusZero minusZero (metres (pos 75)) (metres (negsuc 0)) (pos 0) (pos 0) (pos 3) (negsuc 0) origin origin three below refl in
+    let none = cell-is (div binary64 (metres (pos 0)) size) (pos 0) tt tt in
+    let centre = ellipse-told home refl minusZero minusZero zero zero (pos 0) (pos 0) (pos 0) (pos 0) origin origin none none refl in
+    let single = ellipse-refused home refl minusZero minusZero zero (metres (pos 75)) (pos 0) (pos 0) (pos 0) (pos 3) origin origin none three refl in
     let outside = circle-refused home refl (metres (pos 409600)) minusZero (metres (pos 60)) (far (over (metres (pos 409600)) zero) refl) in
-    (line, (circle, (ellipse, (outside, (refl, tt)))))
+    (line, (circle, (ellipse, (centre, (single, (outside, (refl, tt)))))))

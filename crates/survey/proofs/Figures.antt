@@ -5,7 +5,7 @@ use lib.Ieee.{Float}
 use Rattle.sheet.specs.Reply.{refuse}
 use Rattle.sheet.specs.declared.Refusal.the-variants as refusal
 use Rattle.survey.specs.Cell.{toldFound}
-use Rattle.survey.specs.Metres.{sound, eastward, northward, findLength, lineOf, circleOf, ellipseOf, figureIn, inCells, toldInCells}
+use Rattle.survey.specs.Metres.{sound, eastward, northward, findLength, lineOf, ellipseOf, figureIn, inCells, toldInCells}
 use Rattle.survey.specs.declared.Found.{Found}
 use Rattle.survey.specs.declared.Survey.{Survey}
 use Rattle.survey.specs.declared.Metres.{Metres}
@@ -32,7 +32,7 @@ module _ (s : Survey) where
 
     pub in-circle : {x y m : Float} (a b c : Found) → f ≡ Circle x y m → toldFound a ≡ toldFound (eastward s x)
         → toldFound b ≡ toldFound (northward s y) → toldFound c ≡ toldFound (findLength m (s .size))
-        → r ≡ circleOf a b c → toldInCells r ≡ toldInCells (inCells s f)
+        → r ≡ ellipseOf a b c c → toldInCells r ≡ toldInCells (inCells s f)
     in-circle {x} {y} {m} a b c g i j k e =
         rw (e, found-one a (eastward s x) i, found-one b (northward s y) j, found-one c (findLength m (s .size)) k, g) (in-sound (Circle x y m) ok)
 

@@ -1,15 +1,15 @@
 -- What comes out of metres is within the limits: a figure in metres is refused with 1, 6, 7 or 3, and else it is drawn.
 use mathlib.Core.Path.{_≡_, refl}
-use mathlib.Core.Bool.{Bool, true, false, cond, _&&_}
+use mathlib.Core.Bool.{Bool, true, false, cond}
 use lib.IntN.{ℤ}
 use lib.Ieee.{Float}
-use Rattle.laws.proofs.Tests.{halves, is-true}
-use Rattle.sheet.specs.Sheet.{coordinate, radius, semiAxis}
+use Rattle.laws.proofs.Tests.{is-true}
+use Rattle.sheet.specs.Sheet.{coordinate}
 use Rattle.sheet.specs.declared.Figure.{Figure}
 use Rattle.sheet.specs.declared.Refusal.the-variants as refusal
 use Rattle.sheet.proofs.Figures.{Sound, cell-in}
 use Rattle.survey.specs.Cell.{findCell}
-use Rattle.survey.specs.Metres.{sound, withCell, within, isLength, figureIn, inCells}
+use Rattle.survey.specs.Metres.{sound, withCell, within, areAxes, ellipseOf, figureIn, inCells}
 use Rattle.survey.specs.declared.Found.{Found}
 use Rattle.survey.specs.declared.Found.the-variants.{At, NoCell}
 use Rattle.survey.specs.declared.Survey.{Survey}
@@ -18,7 +18,7 @@ use Rattle.survey.specs.declared.Metres.the-variants as metres
 use Rattle.survey.specs.declared.InCells.{InCells}
 use Rattle.survey.specs.declared.InCells.the-variants.{Figure as Is, Refused}
 use Rattle.survey.proofs.Cells.{CellOf, cell-right}
-use Rattle.survey.proofs.Lengths.{length-in}
+use Rattle.survey.proofs.Lengths.{axes-within}
 
 abbrev pub Within : InCells → Type 0
 Within (Is f) = Sound f
@@ -35,15 +35,16 @@ limited : (t : Bool) (f : Figure) → (t ≡ true → Sound f) → Within (withi
 limited true f h = h refl
 limited false f h = tt
 
+ellipse : (x y a b : Float) → Within (ellipseOf (findCell x) (findCell y) (findCell a) (findCell b))
+ellipse x y a b =
+    field x _ (λ i p. field y _ (λ j q. field a _ (λ k _. field b _ (λ l _.
+    limited (areAxes k l) _ (λ e. (cell-in i j p q, axes-within k l e))))))
+
 figure : (s : Survey) (f : Metres) → Within (figureIn s f)
 figure s (metres.Line x0 y0 x1 y1) =
     field _ _ (λ i a. field _ _ (λ j b. field _ _ (λ k c. field _ _ (λ l d. (cell-in i j a b, cell-in k l c d)))))
-figure s (metres.Circle x y r) =
-    field _ _ (λ i a. field _ _ (λ j b. field _ _ (λ k c. limited (isLength radius k) _ (λ e. (cell-in i j a b, length-in radius k e)))))
-figure s (metres.Ellipse x y m n) =
-    field _ _ (λ i a. field _ _ (λ j b. field _ _ (λ k c. field _ _ (λ l d.
-    limited (isLength semiAxis k && isLength semiAxis l) _
-    (λ e. let p = halves _ _ e in (cell-in i j a b, length-in semiAxis k (p .0), length-in semiAxis l (p .1)))))))
+figure s (metres.Circle x y r) = ellipse _ _ _ _
+figure s (metres.Ellipse x y m n) = ellipse _ _ _ _
 
 pub in-cells-within : (s : Survey) (f : Metres) → Within (inCells s f)
 unfolding inCells

@@ -1,12 +1,11 @@
 -- Document 01, "Metres": a survey, and a figure in metres as one in cells.
-use Prim.Native.Nat.{ℕ}
 use mathlib.Core.List.{_∷_}
 use mathlib.Core.Bool.{Bool, cond, _&&_}
 use lib.IntN.{ℤ, pos, natAbs}
 use lib.Ieee.{Float, binary64, ofInt, lt, sub, div}
 use lib.Ieee.Scale.{finite}
 use lib.Signed.{leZ}
-use Rattle.sheet.specs.Sheet.{cell, radius, semiAxis}
+use Rattle.sheet.specs.Sheet.{cell, axes}
 use Rattle.sheet.specs.Reply.{Answer, done, refuse}
 use Rattle.sheet.specs.Figure.{kindOf, valuesOf}
 use Rattle.sheet.specs.declared.Figure.{Figure}
@@ -49,27 +48,24 @@ withCell found.NoCell next = Refused refusal.NoCell
 abbrev pub within : Bool → Figure → InCells
 within limits f = cond limits (Is f) (Refused refusal.Radius)
 
--- a length in cells, which may be below 0, is within limits
-unfoldable pub isLength : (ℕ → Bool) → ℤ → Bool
-isLength limits z = leZ (pos 0) z && limits (natAbs z)
+-- two lengths in cells, which may be below 0, are the semi-axes of an ellipse
+unfoldable pub areAxes : ℤ → ℤ → Bool
+areAxes a b = leZ (pos 0) a && leZ (pos 0) b && axes (natAbs a) (natAbs b)
 
--- the line, the circle and the ellipse of the cells of their fields
+-- the line and the ellipse of the cells of their fields
 abbrev pub lineOf : Found → Found → Found → Found → InCells
 lineOf x0 y0 x1 y1 =
     withCell x0 (λ x0. withCell y0 (λ y0. withCell x1 (λ x1. withCell y1 (λ y1. Is (figure.Line (cell x0 y0) (cell x1 y1))))))
 
-abbrev pub circleOf : Found → Found → Found → InCells
-circleOf x y r = withCell x (λ x. withCell y (λ y. withCell r (λ r. within (isLength radius r) (figure.Circle (cell x y) (natAbs r)))))
-
 abbrev pub ellipseOf : Found → Found → Found → Found → InCells
 ellipseOf x y a b =
     withCell x (λ x. withCell y (λ y. withCell a (λ a. withCell b (λ b.
-    within (isLength semiAxis a && isLength semiAxis b) (figure.Ellipse (cell x y) (natAbs a) (natAbs b))))))
+    within (areAxes a b) (figure.Ellipse (cell x y) (natAbs a) (natAbs b))))))
 
--- A figure in metres is a line, a circle or an ellipse with its float fields in the order of the record.
+-- A figure in metres is a line, a circle or an ellipse with its float fields in the order of the record; a circle is read as equal axes.
 abbrev pub figureIn : Survey → Metres → InCells
 figureIn s (metres.Line x0 y0 x1 y1) = lineOf (eastward s x0) (northward s y0) (eastward s x1) (northward s y1)
-figureIn s (metres.Circle x y r) = circleOf (eastward s x) (northward s y) (findLength r (s .size))
+figureIn s (metres.Circle x y r) = ellipseOf (eastward s x) (northward s y) (findLength r (s .size)) (findLength r (s .size))
 figureIn s (metres.Ellipse x y a b) = ellipseOf (eastward s x) (northward s y) (findLength a (s .size)) (findLength b (s .size))
 
 -- 6, then 7 for each field in its written order, then 3, else the figure in cells

@@ -3,10 +3,9 @@ ghost use mathlib.Core.Path.{_≡_};
 ghost use Prim.Native.Nat.{_+_, _≤_};
 ghost use lib.Ieee.{binary64, ofInt};
 ghost use lib.Ieee.Scale as scale;
-ghost use Rattle.sheet.specs.Sheet.{radius, semiAxis};
 ghost use Rattle.survey.specs.Cell.{fromLeast, findCell, toldFound};
 ghost use Rattle.survey.specs.Metres.{findCoordinate, findLength, sound, inCells, toldInCells};
-ghost use Rattle.survey.specs.Metres.{isLength, lineOf, circleOf, ellipseOf};
+ghost use Rattle.survey.specs.Metres.{areAxes, lineOf, ellipseOf};
 ghost use Rattle.survey.specs.Inner.{Between};
 use sheet::Cell;
 use sheet::Figure;
@@ -116,23 +115,17 @@ pub fn sound(survey: Survey) -> bool
     finite(survey.east) & finite(survey.north) & finite(survey.size) & (0.0 < survey.size)
 }
 
-// Whether a length in cells, which may be below 0, is within the limits of a radius, and of a semi-axis.
-fn is_radius(length: i32) -> bool
-    ensures { λ r. ⌜ r ≡ isLength radius length ⌝ }
+// Whether two lengths in cells, which may be below 0, are the semi-axes of an ellipse.
+fn are_axes(a: i32, b: i32) -> bool
+    ensures { λ r. ⌜ r ≡ areAxes a b ⌝ }
 {
-    if length < 0 {
+    if a < 0 {
         return false;
     }
-    sheet::is_radius(length as u32)
-}
-
-fn is_semi_axis(length: i32) -> bool
-    ensures { λ r. ⌜ r ≡ isLength semiAxis length ⌝ }
-{
-    if length < 0 {
+    if b < 0 {
         return false;
     }
-    sheet::is_semi_axis(length as u32)
+    sheet::are_axes(a as u32, b as u32)
 }
 
 // The line between two ends, if each of its fields has a cell.
@@ -154,25 +147,6 @@ fn line_of(x0: Found, y0: Found, x1: Found, y1: Found) -> InCells
     InCells::Figure(Figure::Line(Cell { x: x0, y: y0 }, Cell { x: x1, y: y1 }))
 }
 
-// The circle of a centre and a radius.
-fn circle_of(x: Found, y: Found, r: Found) -> InCells
-    ensures { λ v. ⌜ v ≡ circleOf x y r ⌝ }
-{
-    let Found::At(x) = x else {
-        return InCells::Refused(Refusal::NoCell);
-    };
-    let Found::At(y) = y else {
-        return InCells::Refused(Refusal::NoCell);
-    };
-    let Found::At(r) = r else {
-        return InCells::Refused(Refusal::NoCell);
-    };
-    if !is_radius(r) {
-        return InCells::Refused(Refusal::Radius);
-    }
-    InCells::Figure(Figure::Circle(Cell { x, y }, r as u32))
-}
-
 // The ellipse of a centre and two semi-axes.
 fn ellipse_of(x: Found, y: Found, a: Found, b: Found) -> InCells
     ensures { λ v. ⌜ v ≡ ellipseOf x y a b ⌝ }
@@ -189,13 +163,13 @@ fn ellipse_of(x: Found, y: Found, a: Found, b: Found) -> InCells
     let Found::At(b) = b else {
         return InCells::Refused(Refusal::NoCell);
     };
-    if !(is_semi_axis(a) & is_semi_axis(b)) {
+    if !are_axes(a, b) {
         return InCells::Refused(Refusal::Radius);
     }
     InCells::Figure(Figure::Ellipse(Cell { x, y }, a as u32, b as u32))
 }
 
-// A figure in metres as one in cells: x with the east origin and y with the north.
+// A figure in metres as one in cells: x with the east origin and y with the north; a circle as the ellipse of equal axes.
 pub fn to_cells(survey: Survey, figure: Metres) -> InCells
     ensures { λ r. ⌜ toldInCells r ≡ toldInCells (inCells survey figure) ⌝ }
 {
@@ -212,11 +186,15 @@ pub fn to_cells(survey: Survey, figure: Metres) -> InCells
             find_coordinate(x1, east, size),
             find_coordinate(y1, north, size),
         ),
-        Metres::Circle(x, y, r) => circle_of(
-            find_coordinate(x, east, size),
-            find_coordinate(y, north, size),
-            find_length(r, size),
-        ),
+        Metres::Circle(x, y, r) => {
+            let length = find_length(r, size);
+            ellipse_of(
+                find_coordinate(x, east, size),
+                find_coordinate(y, north, size),
+                length,
+                length,
+            )
+        }
         Metres::Ellipse(x, y, a, b) => ellipse_of(
             find_coordinate(x, east, size),
             find_coordinate(y, north, size),

@@ -21,8 +21,8 @@ ends c = let start = c .before .before in omega (arith, start .pre, start .fits 
 centre-in : (c : tie.Else2) → c .before .before .cell-at .result .sound ≡ true
 centre-in c = yes (c .before .before .cell-at .result .sound) _ refl (c .if2 .left)
 
-r-in : (c : tie.Else3) → c .before .before .number-at .result .sound ≡ true
-r-in c = yes (c .before .before .number-at .result .sound) _ refl (c .if3 .left)
+r-in : (c : tie.Else3) → c .before .before .axis-at .result .sound ≡ true
+r-in c = yes (c .before .before .axis-at .result .sound) _ refl (c .if3 .left)
 
 returns : tie.Need-returns
 unfolding circleRow
@@ -46,11 +46,11 @@ returns-2 c =
     rw (circle-found _ _ _ _ _ (centre .before .if1 .left) (centre .cell-at .ensures) refl)
     (simp (no (centre .cell-at .result .sound) _ refl (c .before .if2 .taken)))
 
-number-at-requires : tie.Need-number-at-requires
-number-at-requires c κs = search needs
+axis-at-requires : tie.Need-axis-at-requires
+axis-at-requires c κs = search needs
 
-add-t15 : tie.Need-add-t15
-add-t15 c =
+add-t14 : tie.Need-add-t14
+add-t14 c =
     let r = c .before .before in
     let centre = r .before .before .before in
     omega (arith, ends (centre .before))
@@ -59,17 +59,17 @@ returns-3 : tie.Need-returns-3
 returns-3 c =
     let r = c .before .before in
     let centre = r .before .before .before in
-    rw (circle-found _ _ _ _ _ (centre .before .if1 .left) (centre .cell-at .ensures) (r .number-at .ensures))
-    (simp (centre-in (r .before), no (r .number-at .result .sound) _ refl (c .if3 .taken)))
+    rw (circle-found _ _ _ _ _ (centre .before .if1 .left) (centre .cell-at .ensures) (r .axis-at .ensures))
+    (simp (centre-in (r .before), no (r .axis-at .result .sound) _ refl (c .if3 .taken)))
 
-shared-slice-read-t17 : tie.Need-shared-slice-read-t17
-shared-slice-read-t17 c = search needs
+shared-slice-read-t16 : tie.Need-shared-slice-read-t16
+shared-slice-read-t16 c = search needs
 
 returns-4 : tie.Need-returns-4
 returns-4 c =
     let r = c .before .before .before .before in
     let centre = r .before .before .before in
-    rw (circle-found _ _ _ _ _ (centre .before .if1 .left) (centre .cell-at .ensures) (r .number-at .ensures))
+    rw (circle-found _ _ _ _ _ (centre .before .if1 .left) (centre .cell-at .ensures) (r .axis-at .ensures))
     (simp (centre-in (r .before), r-in (c .before .before)))
 
 pub circle-spec : {M : Type 1} → statement M
@@ -81,8 +81,8 @@ circle-spec =
     cell-at-requires
     add-t12
     returns-2
-    number-at-requires
-    add-t15
+    axis-at-requires
+    add-t14
     returns-3
-    shared-slice-read-t17
+    shared-slice-read-t16
     returns-4)

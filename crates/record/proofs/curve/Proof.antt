@@ -27,8 +27,8 @@ p1-in c = yes (c .before .before .cell-at2 .result .sound) _ refl (c .if3 .left)
 p2-in : (c : tie.Else4) → c .before .before .cell-at3 .result .sound ≡ true
 p2-in c = yes (c .before .before .cell-at3 .result .sound) _ refl (c .if4 .left)
 
-s-in : (c : tie.Else5) → c .before .before .number-at .result .sound ≡ true
-s-in c = yes (c .before .before .number-at .result .sound) _ refl (c .if5 .left)
+s-in : (c : tie.Else5) → c .before .before .split-at .result .sound ≡ true
+s-in c = yes (c .before .before .split-at .result .sound) _ refl (c .if5 .left)
 
 returns : tie.Need-returns
 unfolding curveRow
@@ -88,11 +88,11 @@ returns-4 c =
     rw (curve-found _ _ _ _ _ _ _ (p0 .before .if1 .left) (p0 .cell-at .ensures) (p1 .cell-at2 .ensures) (p2 .cell-at3 .ensures) refl)
     (simp (p0-in (p1 .before), p1-in (p2 .before), no (p2 .cell-at3 .result .sound) _ refl (c .before .if4 .taken)))
 
-number-at-requires : tie.Need-number-at-requires
-number-at-requires c κs = search needs
+split-at-requires : tie.Need-split-at-requires
+split-at-requires c κs = search needs
 
-add-t23 : tie.Need-add-t23
-add-t23 c =
+add-t22 : tie.Need-add-t22
+add-t22 c =
     let s = c .before .before in
     let p2 = s .before .before .before in
     let p1 = p2 .before .before .before in
@@ -105,11 +105,11 @@ returns-5 c =
     let p2 = s .before .before .before in
     let p1 = p2 .before .before .before in
     let p0 = p1 .before .before .before in
-    rw (curve-found _ _ _ _ _ _ _ (p0 .before .if1 .left) (p0 .cell-at .ensures) (p1 .cell-at2 .ensures) (p2 .cell-at3 .ensures) (s .number-at .ensures))
-    (simp (p0-in (p1 .before), p1-in (p2 .before), p2-in (s .before), no (s .number-at .result .sound) _ refl (c .if5 .taken)))
+    rw (curve-found _ _ _ _ _ _ _ (p0 .before .if1 .left) (p0 .cell-at .ensures) (p1 .cell-at2 .ensures) (p2 .cell-at3 .ensures) (s .split-at .ensures))
+    (simp (p0-in (p1 .before), p1-in (p2 .before), p2-in (s .before), no (s .split-at .result .sound) _ refl (c .if5 .taken)))
 
-shared-slice-read-t25 : tie.Need-shared-slice-read-t25
-shared-slice-read-t25 c = search needs
+shared-slice-read-t24 : tie.Need-shared-slice-read-t24
+shared-slice-read-t24 c = search needs
 
 returns-6 : tie.Need-returns-6
 returns-6 c =
@@ -117,7 +117,7 @@ returns-6 c =
     let p2 = s .before .before .before in
     let p1 = p2 .before .before .before in
     let p0 = p1 .before .before .before in
-    rw (curve-found _ _ _ _ _ _ _ (p0 .before .if1 .left) (p0 .cell-at .ensures) (p1 .cell-at2 .ensures) (p2 .cell-at3 .ensures) (s .number-at .ensures))
+    rw (curve-found _ _ _ _ _ _ _ (p0 .before .if1 .left) (p0 .cell-at .ensures) (p1 .cell-at2 .ensures) (p2 .cell-at3 .ensures) (s .split-at .ensures))
     (simp (p0-in (p1 .before), p1-in (p2 .before), p2-in (s .before), s-in (c .before .before .before .before)))
 
 pub curve-spec : {M : Type 1} → statement M
@@ -135,8 +135,8 @@ curve-spec =
     cell-at-requires-3
     add-t20
     returns-4
-    number-at-requires
-    add-t23
+    split-at-requires
+    add-t22
     returns-5
-    shared-slice-read-t25
+    shared-slice-read-t24
     returns-6)

@@ -21,11 +21,11 @@ ends c = let start = c .before .before in omega (arith, start .pre, start .fits 
 centre-in : (c : tie.Else2) → c .before .before .cell-at .result .sound ≡ true
 centre-in c = yes (c .before .before .cell-at .result .sound) _ refl (c .if2 .left)
 
-a-in : (c : tie.Else3) → c .before .before .number-at .result .sound ≡ true
-a-in c = yes (c .before .before .number-at .result .sound) _ refl (c .if3 .left)
+a-in : (c : tie.Else3) → c .before .before .axis-at .result .sound ≡ true
+a-in c = yes (c .before .before .axis-at .result .sound) _ refl (c .if3 .left)
 
-b-in : (c : tie.Else4) → c .before .before .number-at2 .result .sound ≡ true
-b-in c = yes (c .before .before .number-at2 .result .sound) _ refl (c .if4 .left)
+b-in : (c : tie.Else4) → c .before .before .axis-at2 .result .sound ≡ true
+b-in c = yes (c .before .before .axis-at2 .result .sound) _ refl (c .if4 .left)
 
 returns : tie.Need-returns
 unfolding ellipseRow
@@ -49,11 +49,11 @@ returns-2 c =
     rw (ellipse-found _ _ _ _ _ _ (centre .before .if1 .left) (centre .cell-at .ensures) refl refl)
     (simp (no (centre .cell-at .result .sound) _ refl (c .before .if2 .taken)))
 
-number-at-requires : tie.Need-number-at-requires
-number-at-requires c κs = search needs
+axis-at-requires : tie.Need-axis-at-requires
+axis-at-requires c κs = search needs
 
-add-t16 : tie.Need-add-t16
-add-t16 c =
+add-t15 : tie.Need-add-t15
+add-t15 c =
     let a = c .before .before in
     let centre = a .before .before .before in
     omega (arith, ends (centre .before))
@@ -62,14 +62,14 @@ returns-3 : tie.Need-returns-3
 returns-3 c =
     let a = c .before .before in
     let centre = a .before .before .before in
-    rw (ellipse-found _ _ _ _ _ _ (centre .before .if1 .left) (centre .cell-at .ensures) (a .number-at .ensures) refl)
-    (simp (centre-in (a .before), no (a .number-at .result .sound) _ refl (c .if3 .taken)))
+    rw (ellipse-found _ _ _ _ _ _ (centre .before .if1 .left) (centre .cell-at .ensures) (a .axis-at .ensures) refl)
+    (simp (centre-in (a .before), no (a .axis-at .result .sound) _ refl (c .if3 .taken)))
 
-number-at-requires-2 : tie.Need-number-at-requires-2
-number-at-requires-2 c κs = search needs
+axis-at-requires-2 : tie.Need-axis-at-requires-2
+axis-at-requires-2 c κs = search needs
 
-add-t18 : tie.Need-add-t18
-add-t18 c =
+add-t17 : tie.Need-add-t17
+add-t17 c =
     let b = c .before .before in
     let a = b .before .before .before in
     let centre = a .before .before .before in
@@ -80,18 +80,18 @@ returns-4 c =
     let b = c .before .before in
     let a = b .before .before .before in
     let centre = a .before .before .before in
-    rw (ellipse-found _ _ _ _ _ _ (centre .before .if1 .left) (centre .cell-at .ensures) (a .number-at .ensures) (b .number-at2 .ensures))
-    (simp (centre-in (a .before), a-in (b .before), no (b .number-at2 .result .sound) _ refl (c .if4 .taken)))
+    rw (ellipse-found _ _ _ _ _ _ (centre .before .if1 .left) (centre .cell-at .ensures) (a .axis-at .ensures) (b .axis-at2 .ensures))
+    (simp (centre-in (a .before), a-in (b .before), no (b .axis-at2 .result .sound) _ refl (c .if4 .taken)))
 
-shared-slice-read-t20 : tie.Need-shared-slice-read-t20
-shared-slice-read-t20 c = search needs
+shared-slice-read-t19 : tie.Need-shared-slice-read-t19
+shared-slice-read-t19 c = search needs
 
 returns-5 : tie.Need-returns-5
 returns-5 c =
     let b = c .before .before .before .before in
     let a = b .before .before .before in
     let centre = a .before .before .before in
-    rw (ellipse-found _ _ _ _ _ _ (centre .before .if1 .left) (centre .cell-at .ensures) (a .number-at .ensures) (b .number-at2 .ensures))
+    rw (ellipse-found _ _ _ _ _ _ (centre .before .if1 .left) (centre .cell-at .ensures) (a .axis-at .ensures) (b .axis-at2 .ensures))
     (simp (centre-in (a .before), a-in (b .before), b-in (c .before .before)))
 
 pub ellipse-spec : {M : Type 1} → statement M
@@ -103,11 +103,11 @@ ellipse-spec =
     cell-at-requires
     add-t13
     returns-2
-    number-at-requires
-    add-t16
+    axis-at-requires
+    add-t15
     returns-3
-    number-at-requires-2
-    add-t18
+    axis-at-requires-2
+    add-t17
     returns-4
-    shared-slice-read-t20
+    shared-slice-read-t19
     returns-5)

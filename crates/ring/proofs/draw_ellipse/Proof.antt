@@ -1,17 +1,17 @@
 -- `ring::draw_ellipse` meets its contract.
-use mathlib.Core.Path.{_≡_, refl, ap₂}
-use mathlib.Core.Bool.{true, _&&_}
+use mathlib.Core.Path.{_≡_, refl}
+use mathlib.Core.Bool.{true}
 use lib.ListN.{length}
 use denote.Ref.{now}
 use Rattle.laws.proofs.Tests.{no, yes}
-use Rattle.sheet.specs.Sheet.{inLimits, semiAxis}
+use Rattle.sheet.specs.Sheet.{inLimits, axes}
 use Rattle.sheet.specs.Inner.{fits}
 use Rattle.sheet.specs.declared.Refusal.the-variants.{Coordinate, Radius}
 use Rattle.sheet.proofs.Draws.{refuses}
 use Rattle.sheet.proofs.Lent.{if-sheet, is-sheet, sheet-refused}
 use Rattle.sheet.proofs.Limits.{fits-sheet}
-use Rattle.ring.specs.Draw.{ringAnswer}
-use Rattle.ring.proofs.Answers.{ring-done, centred, semi-axes-are}
+use Rattle.ring.specs.Draw.{ellipseAnswer}
+use Rattle.ring.proofs.Answers.{ring-done, centred}
 use borrow.Author.Needs.{needs}
 use Rattle.ring.proofs.draw_ellipse.Statement.{statement}
 use Rattle.ring.proofs.draw_ellipse.Tie as tie
@@ -23,10 +23,8 @@ fitted c = let asked = c .before in is-sheet _ _ _ _ (asked .before .check .ensu
 inside : (c : tie.Else2) → inLimits (c .before .before .before .before .before .before .args .centre) ≡ true
 inside c = yes _ _ (c .before .in-limits .ensures) (c .if2 .left)
 
-tested : (c : tie.After-is-semi-axis2)
-    → (c .before .is-semi-axis .result && c .is-semi-axis2 .result)
-    ≡ (semiAxis (c .before .before .before .before .before .before .before .before .args .a) && semiAxis (c .before .before .before .before .before .before .before .before .args .b))
-tested c = ap₂ _&&_ (c .before .is-semi-axis .ensures) (c .is-semi-axis2 .ensures)
+paired : (c : tie.Else3) → let a = c .before .before .before .before .before .before .before .before .args in axes (a .a) (a .b) ≡ true
+paired c = yes _ _ (c .before .are-axes .ensures) (c .if3 .left)
 
 check-requires : tie.Need-check-requires
 check-requires c κs = search needs
@@ -35,41 +33,36 @@ is-done-requires : tie.Need-is-done-requires
 is-done-requires c κs = search needs
 
 returns : tie.Need-returns
-unfolding ringAnswer
+unfolding ellipseAnswer
 returns c = let asked = c .before in sheet-refused _ _ _ _ _ _ refl (asked .before .check .ensures) (asked .is-done .ensures) (c .if1 .taken)
 
 in-limits-requires : tie.Need-in-limits-requires
 in-limits-requires c κs = search needs
 
 returns-2 : tie.Need-returns-2
-unfolding ringAnswer
+unfolding ellipseAnswer
 returns-2 c = refuses _ _ Coordinate (simp (if-sheet _ _ (fitted (c .before .before)), no _ _ (c .before .in-limits .ensures) (c .if2 .taken)))
 
-is-semi-axis-requires : tie.Need-is-semi-axis-requires
-is-semi-axis-requires c κs = search needs
-
-is-semi-axis-requires-2 : tie.Need-is-semi-axis-requires-2
-is-semi-axis-requires-2 c κs = search needs
+are-axes-requires : tie.Need-are-axes-requires
+are-axes-requires c κs = search needs
 
 returns-3 : tie.Need-returns-3
-unfolding ringAnswer
+unfolding ellipseAnswer
 returns-3 c =
-    let limited = c .before .before .before in
-    refuses _ _ Radius (simp (if-sheet _ _ (fitted (limited .before .before)), inside limited, no _ _ (tested (c .before)) (c .if3 .taken)))
+    let limited = c .before .before in
+    refuses _ _ Radius (simp (if-sheet _ _ (fitted (limited .before .before)), inside limited, no _ _ (c .before .are-axes .ensures) (c .if3 .taken)))
 
 lift-cell-requires : tie.Need-lift-cell-requires
 lift-cell-requires c κs = search needs
 
-ellipse-on-requires : tie.Need-ellipse-on-requires
-ellipse-on-requires c κs =
+ring-on-requires : tie.Need-ring-on-requires
+ring-on-requires c κs =
     let axes = c .before .before in
-    let limited = axes .before .before .before in
-    let a = limited .before .before .before .before .before .before .args in
-    let l = semi-axes-are (a .a) (a .b) (yes _ _ (tested (axes .before)) (axes .if3 .left)) in (
+    let limited = axes .before .before in
+    let a = limited .before .before .before .before .before .before .args in (
       fits-sheet _ _ (fitted (limited .before .before)),
       centred (a .centre) (c .lift-cell .result) (inside limited) (c .lift-cell .ensures),
-      l .0,
-      l .1,
+      paired axes,
     )
 
 same-length : tie.Need-same-length
@@ -79,11 +72,11 @@ returns-4 : tie.Need-returns-4
 returns-4 c =
     let called = c .before .before in
     let axes = called .before .before .before in
-    let limited = axes .before .before .before in
+    let limited = axes .before .before in
     let sized = limited .before .before in
     let a = sized .before .before .before .before .args in
-    ring-done (a .shape) (a .ink) (a .centre) _ _ (now (a .sheet)) _ _ (fitted sized) (inside limited)
-    (yes _ _ (tested (axes .before)) (axes .if3 .left)) (called .before .lift-cell .ensures) (called .ellipse-on .ensures)
+    ring-done (a .shape) (a .ink) (a .centre) (a .a) (a .b) (now (a .sheet)) _ _ (fitted sized) (inside limited) (paired axes)
+    (called .before .lift-cell .ensures) (called .ring-on .ensures)
 
 pub draw-ellipse-spec : {M : Type 1} → statement M
 draw-ellipse-spec =
@@ -94,10 +87,9 @@ draw-ellipse-spec =
     returns
     in-limits-requires
     returns-2
-    is-semi-axis-requires
-    is-semi-axis-requires-2
+    are-axes-requires
     returns-3
     lift-cell-requires
-    ellipse-on-requires
+    ring-on-requires
     same-length
     returns-4)

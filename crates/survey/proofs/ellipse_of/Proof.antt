@@ -1,13 +1,12 @@
 -- `survey::ellipse_of` meets its contract.
-use mathlib.Core.Path.{_≡_, ap₂}
-use mathlib.Core.Bool.{true, _&&_}
+use mathlib.Core.Path.{_≡_}
+use mathlib.Core.Bool.{true}
 use mir.Syntax.{w32}
 use mir.Val.{SFits}
 use borrow.Author.Needs.{needs}
-use Rattle.laws.proofs.Tests.{halves, no, yes}
-use Rattle.sheet.specs.Sheet.{semiAxis}
-use Rattle.survey.specs.Metres.{isLength}
-use Rattle.survey.proofs.Lengths.{test-back, casts-in}
+use Rattle.laws.proofs.Tests.{no, yes}
+use Rattle.survey.specs.Metres.{areAxes}
+use Rattle.survey.proofs.Lengths.{test-back, first-casts, second-casts}
 use Rattle.survey.proofs.ellipse_of.Statement.{statement}
 use Rattle.survey.proofs.ellipse_of.Tie as tie
 
@@ -47,11 +46,8 @@ enum-told-4 c = search needs
 returns-4 : tie.Need-returns-4
 returns-4 c = rw (c .before .before .before .before .before .before .before .before .before .x .given .1, c .before .before .before .before .before .before .y .given .1, c .before .before .before .a .given .1, c .enum-told4 .given .1)
 
-is-semi-axis-requires : tie.Need-is-semi-axis-requires
-is-semi-axis-requires c κs = search needs
-
-is-semi-axis-requires-2 : tie.Need-is-semi-axis-requires-2
-is-semi-axis-requires-2 c κs = search needs
+are-axes-requires : tie.Need-are-axes-requires
+are-axes-requires c κs = search needs
 
 -- what the test of the semi-axes says
 first-fits : (c : tie.After-known-told3) → SFits w32 (c .before .a .given .0 .0)
@@ -60,37 +56,31 @@ first-fits c = record { sfits = c .known-told3 .given .0 .1 }
 second-fits : (c : tie.After-known-told4) → SFits w32 (c .before .b .given .0 .0)
 second-fits c = record { sfits = c .known-told4 .given .0 .1 }
 
-tested : (c : tie.After-is-semi-axis2)
-    → (c .before .is-semi-axis .result && c .is-semi-axis2 .result)
-    ≡ (isLength semiAxis (c .before .before .before .before .before .before .a .given .0 .0) && isLength semiAxis (c .before .before .before .b .given .0 .0))
-tested c =
-    ap₂ _&&_
-    (test-back _ (first-fits (c .before .before .before .before .before)) semiAxis _ (c .before .is-semi-axis .ensures))
-    (test-back _ (second-fits (c .before .before)) semiAxis _ (c .is-semi-axis2 .ensures))
+tested : (c : tie.After-are-axes)
+    → c .are-axes .result ≡ areAxes (c .before .before .before .before .before .a .given .0 .0) (c .before .before .b .given .0 .0)
+tested c = test-back _ _ (first-fits (c .before .before .before .before)) (second-fits (c .before)) _ (c .are-axes .ensures)
 
 returns-5 : tie.Need-returns-5
 returns-5 c =
-    let b = c .before .before .before .before in
+    let b = c .before .before .before in
     let a = b .before .before .before in
     let y = a .before .before .before in
     rw (y .before .before .before .x .given .1, y .y .given .1, a .a .given .1, b .b .given .1, no _ _ (tested (c .before)) (c .if1 .taken))
 
--- both are within their limits
-inside : (c : tie.Else1) → (isLength semiAxis (c .before .before .before .before .before .before .before .a .given .0 .0) && isLength semiAxis (c .before .before .before .before .b .given .0 .0)) ≡ true
+-- they are within their limits
+inside : (c : tie.Else1)
+    → areAxes (c .before .before .before .before .before .before .a .given .0 .0) (c .before .before .before .b .given .0 .0) ≡ true
 inside c = yes _ _ (tested (c .before)) (c .if1 .left)
 
-both : (c : tie.Else1) → let b = c .before .before .before .before in let a = b .before .before .before in (isLength semiAxis (a .a .given .0 .0) ≡ true) × (isLength semiAxis (b .b .given .0 .0) ≡ true)
-both c = halves (isLength semiAxis _) (isLength semiAxis _) (inside c)
+cast-t17 : tie.Need-cast-t17
+cast-t17 c = first-casts _ _ (first-fits (c .before .before .before .before .before)) (second-fits (c .before .before)) (inside c)
 
-cast-t19 : tie.Need-cast-t19
-cast-t19 c = casts-in _ (first-fits (c .before .before .before .before .before .before)) semiAxis (both c .0)
-
-cast-t20 : tie.Need-cast-t20
-cast-t20 c = casts-in _ (second-fits (c .before .before .before)) semiAxis (both c .1)
+cast-t18 : tie.Need-cast-t18
+cast-t18 c = second-casts _ _ (first-fits (c .before .before .before .before .before)) (second-fits (c .before .before)) (inside c)
 
 returns-6 : tie.Need-returns-6
 returns-6 c =
-    let b = c .before .before .before .before in
+    let b = c .before .before .before in
     let a = b .before .before .before in
     let y = a .before .before .before in
     rw (y .before .before .before .x .given .1, y .y .given .1, a .a .given .1, b .b .given .1, inside c) (search needs)
@@ -111,9 +101,8 @@ ellipse-of-spec =
     enum-known-b
     enum-told-4
     returns-4
-    is-semi-axis-requires
-    is-semi-axis-requires-2
+    are-axes-requires
     returns-5
-    cast-t19
-    cast-t20
+    cast-t17
+    cast-t18
     returns-6)

@@ -34,17 +34,17 @@ line-of-requires c κs = search needs
 enum-known-figure-2 : tie.Need-enum-known-figure-2
 enum-known-figure-2 c = search needs
 
+find-length-requires : tie.Need-find-length-requires
+find-length-requires c κs = search needs
+
 find-coordinate-requires-5 : tie.Need-find-coordinate-requires-5
 find-coordinate-requires-5 c κs = search needs
 
 find-coordinate-requires-6 : tie.Need-find-coordinate-requires-6
 find-coordinate-requires-6 c κs = search needs
 
-find-length-requires : tie.Need-find-length-requires
-find-length-requires c κs = search needs
-
-circle-of-requires : tie.Need-circle-of-requires
-circle-of-requires c κs = search needs
+ellipse-of-requires : tie.Need-ellipse-of-requires
+ellipse-of-requires c κs = search needs
 
 enum-known-figure-3 : tie.Need-enum-known-figure-3
 enum-known-figure-3 c = search needs
@@ -61,8 +61,8 @@ find-length-requires-2 c κs = search needs
 find-length-requires-3 : tie.Need-find-length-requires-3
 find-length-requires-3 c κs = search needs
 
-ellipse-of-requires : tie.Need-ellipse-of-requires
-ellipse-of-requires c κs = search needs
+ellipse-of-requires-2 : tie.Need-ellipse-of-requires-2
+ellipse-of-requires-2 c κs = search needs
 
 returns-2 : tie.Need-returns-2
 returns-2 c =
@@ -80,10 +80,10 @@ returns-3 c =
     let told = c .before .before .before .before .before in
     let left = told .before .before in
     let args = left .before .before .args in
-    let first = c .before .before .before .find-coordinate5 in
-    let second = c .before .before .find-coordinate6 in
-    let third = c .before .find-length in
-    in-circle (args .survey) (args .figure) (yes _ _ (left .before .sound .ensures) (left .if1 .left)) (c .circle-of .result) (first .result) (second .result) (third .result) (told .figure2 .given .1) (first .ensures) (second .ensures) (third .ensures) (c .circle-of .ensures)
+    let first = c .before .before .find-coordinate5 in
+    let second = c .before .find-coordinate6 in
+    let third = c .before .before .before .find-length in
+    in-circle (args .survey) (args .figure) (yes _ _ (left .before .sound .ensures) (left .if1 .left)) (c .ellipse-of .result) (first .result) (second .result) (third .result) (told .figure2 .given .1) (first .ensures) (second .ensures) (third .ensures) (c .ellipse-of .ensures)
 
 returns-4 : tie.Need-returns-4
 returns-4 c =
@@ -94,7 +94,7 @@ returns-4 c =
     let second = c .before .before .before .find-coordinate8 in
     let third = c .before .before .find-length2 in
     let fourth = c .before .find-length3 in
-    in-ellipse (args .survey) (args .figure) (yes _ _ (left .before .sound .ensures) (left .if1 .left)) (c .ellipse-of .result) (first .result) (second .result) (third .result) (fourth .result) (told .figure3 .given .1) (first .ensures) (second .ensures) (third .ensures) (fourth .ensures) (c .ellipse-of .ensures)
+    in-ellipse (args .survey) (args .figure) (yes _ _ (left .before .sound .ensures) (left .if1 .left)) (c .ellipse-of2 .result) (first .result) (second .result) (third .result) (fourth .result) (told .figure3 .given .1) (first .ensures) (second .ensures) (third .ensures) (fourth .ensures) (c .ellipse-of2 .ensures)
 
 pub to-cells-spec : {M : Type 1} → statement M
 to-cells-spec =
@@ -109,16 +109,16 @@ to-cells-spec =
     find-coordinate-requires-4
     line-of-requires
     enum-known-figure-2
+    find-length-requires
     find-coordinate-requires-5
     find-coordinate-requires-6
-    find-length-requires
-    circle-of-requires
+    ellipse-of-requires
     enum-known-figure-3
     find-coordinate-requires-7
     find-coordinate-requires-8
     find-length-requires-2
     find-length-requires-3
-    ellipse-of-requires
+    ellipse-of-requires-2
     returns-2
     returns-3
     returns-4)

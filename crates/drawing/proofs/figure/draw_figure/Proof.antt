@@ -15,14 +15,14 @@ draw-line-requires c κs = search needs
 enum-known-figure-2 : tie.Need-enum-known-figure-2
 enum-known-figure-2 c = search needs
 
-draw-circle-requires : tie.Need-draw-circle-requires
-draw-circle-requires c κs = search needs
+draw-ellipse-requires : tie.Need-draw-ellipse-requires
+draw-ellipse-requires c κs = search needs
 
 enum-known-figure-3 : tie.Need-enum-known-figure-3
 enum-known-figure-3 c = search needs
 
-draw-ellipse-requires : tie.Need-draw-ellipse-requires
-draw-ellipse-requires c κs = search needs
+draw-ellipse-requires-2 : tie.Need-draw-ellipse-requires-2
+draw-ellipse-requires-2 c κs = search needs
 
 enum-known-figure-4 : tie.Need-enum-known-figure-4
 enum-known-figure-4 c = search needs
@@ -48,7 +48,7 @@ returns-2 c =
     let called = c .before .before in
     let chosen = called .before .before .before in
     let a = chosen .before .before .before .args in
-    draws-as _ _ _ _ _ (ap (figureDrawing (a .shape) (a .ink)) (sym (chosen .figure2 .given .1))) (called .draw-circle .ensures)
+    draws-as _ _ _ _ _ (ap (figureDrawing (a .shape) (a .ink)) (sym (chosen .figure2 .given .1))) (called .draw-ellipse .ensures)
 
 same-length-3 : tie.Need-same-length-3
 same-length-3 c = search needs
@@ -58,7 +58,7 @@ returns-3 c =
     let called = c .before .before in
     let chosen = called .before .before .before in
     let a = chosen .before .before .before .args in
-    draws-as _ _ _ _ _ (ap (figureDrawing (a .shape) (a .ink)) (sym (chosen .figure3 .given .1))) (called .draw-ellipse .ensures)
+    draws-as _ _ _ _ _ (ap (figureDrawing (a .shape) (a .ink)) (sym (chosen .figure3 .given .1))) (called .draw-ellipse2 .ensures)
 
 same-length-4 : tie.Need-same-length-4
 same-length-4 c = search needs
@@ -77,9 +77,9 @@ draw-figure-spec =
     enum-known-figure
     draw-line-requires
     enum-known-figure-2
-    draw-circle-requires
-    enum-known-figure-3
     draw-ellipse-requires
+    enum-known-figure-3
+    draw-ellipse-requires-2
     enum-known-figure-4
     draw-curve-requires
     same-length

@@ -3,7 +3,7 @@ use borrow.Author.Needs.{needs}
 use Rattle.sheet.proofs.Draws.{draws-as}
 use Rattle.ring.specs.Draw.{ellipseDrawing}
 use Rattle.pistonwool.specs.Told.{shapeOf}
-use Rattle.pistonwool.proofs.Forms.{ring-tells}
+use Rattle.pistonwool.proofs.Forms.{ellipse-tells}
 use Rattle.pistonwool.proofs.Told.{cell-back, draws-number}
 use Rattle.pistonwool.proofs.cells.pw_ellipse.Statement.{statement}
 use Rattle.pistonwool.proofs.cells.pw_ellipse.Tie as tie
@@ -25,7 +25,7 @@ returns c =
     let centre = cell-back (a .x) (a .y) (start .fits .x) (start .fits .y) in
     draws-number _ _ _ _ _
     (draws-as _ _ _ _ _ (λ i. ellipseDrawing (shapeOf (a .width) (a .height) (a .pitch)) (a .ink) (centre i) (a .a) (a .b)) (called .draw-ellipse .ensures))
-    (ring-tells _ _ _ _) (c .number .ensures)
+    (ellipse-tells _ _ _ _ _) (c .number .ensures)
 
 pub pw-ellipse-spec : {M : Type 1} → statement M
 pw-ellipse-spec = tie.close (tie.spec draw-ellipse-requires number-requires same-length returns)
