@@ -56,7 +56,7 @@ pub fn places([x0, y0, x1, y1]: [i32; 4]) -> usize {
 }
 
 impl Job {
-    /// The export's name after its pw_.
+    /// The export's name after its pw_; but a circle, drawn by that of ellipses, has its own.
     pub fn name(&self) -> &'static str {
         match self {
             Job::Cells(_, _, Cells::Line(_)) => "line",

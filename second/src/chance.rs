@@ -209,6 +209,9 @@ pub fn circle(random: &mut Random, size: Size) -> Cells {
 }
 
 pub fn ellipse(random: &mut Random, size: Size) -> Cells {
+    if random.once_in(16) {
+        return with_zeros(random, size);
+    }
     if random.once_in(3) {
         return flat_ellipse(random, size);
     }
@@ -220,6 +223,16 @@ pub fn ellipse(random: &mut Random, size: Size) -> Cells {
     let [x, y] = to_the_sheet(random, size, centre);
     let part = random.within(1, 63) as f64 / 64.0;
     Cells::Ellipse(centre, (x / part) as u32, (y / (1.0 - part * part).sqrt()) as u32)
+}
+
+/// Both axes are 0, or one is beside another of any size.
+fn with_zeros(random: &mut Random, size: Size) -> Cells {
+    let [a, b] = match random.number() % 4 {
+        0 => [radius(random, size.width), 0],
+        1 => [0, radius(random, size.height)],
+        _ => [0, 0],
+    };
+    Cells::Ellipse(point(random, size), a, b)
 }
 
 /// One axis is 1 to 3, the other up to 300; the centre or the end of an axis is on the sheet.

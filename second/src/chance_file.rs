@@ -35,7 +35,8 @@ fn sound(random: &mut Random) -> Cells {
     let mut near = || random.within(-99, 99) as i32;
     let [x, y] = [near(), near()];
     let points = [x, y, near(), near(), near(), near()];
-    let [a, b] = [(); 2].map(|()| random.within(1, 99) as u32);
+    let zeros = random.once_in(12);
+    let [a, b] = [(); 2].map(|()| if zeros { 0 } else { random.within(1, 99) as u32 });
     match random.number() % 4 {
         0 => Cells::Line([x, y, points[2], points[3]]),
         1 => Cells::Circle([x, y], a),

@@ -108,12 +108,22 @@ mod tests {
     }
 
     #[test]
+    fn a_single_axis_of_0_is_named() {
+        assert_eq!(reply(&with(3, &[1, 1, 0, 2])), (3, Some(9)));
+        assert_eq!(reply(&with(3, &[1, 1, 2, 0])), (3, Some(11)));
+        assert_eq!(reply(&with(3, &[1, 1, 0, 0x4000])), (3, Some(9)));
+        assert_eq!(reply(&with(3, &[1, 1, 0x4000, 0])), (3, Some(9)));
+        assert_eq!(reply(&with(2, &[1, 1, 0])), (0, Some(1)));
+    }
+
+    #[test]
     fn fields_of_each_kind() {
         // numbers that are drawn; then for each field the offset, and the number that refuses one outside its limits
-        let kinds: [(u8, &[u16], &[(u64, u32)]); 4] = [
+        let kinds: [(u8, &[u16], &[(u64, u32)]); 5] = [
             (1, &[0, 0, 2, 1], &[(5, 2), (7, 2), (9, 2), (11, 2)]),
             (2, &[1, 1, 3], &[(5, 2), (7, 2), (9, 3)]),
             (3, &[1, 1, 3, 2], &[(5, 2), (7, 2), (9, 3), (11, 3)]),
+            (3, &[1, 1, 0, 0], &[(5, 2), (7, 2), (9, 3)]),
             (4, &[0, 0, 2, 4, 4, 0, 6], &[(5, 2), (7, 2), (9, 2), (11, 2), (13, 2), (15, 2), (17, 4)]),
         ];
         for (kind, sound, fields) in kinds {

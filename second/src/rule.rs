@@ -57,7 +57,7 @@ pub struct Rules {
     pub drawn: fn(&Rules, Shape, Cell, Cell) -> Vec<Cell>,
     /// The byte of a cell on a sheet of this shape.
     pub place: fn(Shape, Cell) -> Option<usize>,
-    /// Whether a circle of radius r has the cell (x, y) from its centre.
+    /// Whether a circle of radius r, which the library draws as the ellipse of equal axes, has the cell (x, y) from its centre.
     pub on_circle: fn(i64, Cell) -> bool,
     /// Whether an ellipse of semi-axes a, b has the cell (x, y) from its centre.
     pub on_ellipse: fn(i64, i64, Cell) -> bool,
@@ -202,11 +202,11 @@ pub fn refusal(figure: &Figure) -> Option<Bad> {
 /// Every field that is outside its limits, in the order of the payload.
 pub fn bad_fields(figure: &Figure) -> Vec<Bad> {
     let coordinate = |c: i64| (!within(c), 2);
-    let radius = |r: i64, least: i64| (!(least..=MOST).contains(&r), 3);
+    let axis = |n: i64, other: i64| (!(0..=MOST).contains(&n) || (n == 0 && other != 0), 3);
     let fields = match *figure {
         Figure::Line((x0, y0), (x1, y1)) => [x0, y0, x1, y1].map(coordinate).to_vec(),
-        Figure::Circle((x, y), r) => vec![coordinate(x), coordinate(y), radius(r, 0)],
-        Figure::Ellipse((x, y), a, b) => vec![coordinate(x), coordinate(y), radius(a, 1), radius(b, 1)],
+        Figure::Circle((x, y), r) => vec![coordinate(x), coordinate(y), axis(r, r)],
+        Figure::Ellipse((x, y), a, b) => vec![coordinate(x), coordinate(y), axis(a, b), axis(b, a)],
         Figure::Curve(points, s) => {
             let coordinates = points.iter().flat_map(|&(x, y)| [x, y]).map(coordinate);
             coordinates.chain([(s > 6, 4)]).collect()
@@ -266,8 +266,11 @@ pub fn on_circle(r: i64, from_centre: Cell) -> bool {
     (y >= 1 && y * (y - 1) < rest && rest <= y * (y + 1)) || (y == 0 && r == 0)
 }
 
-/// Nearest in its column or nearest in its row.
+/// Nearest in its column or nearest in its row; with both axes 0, the centre.
 pub fn on_ellipse(a: i64, b: i64, (x, y): Cell) -> bool {
+    if (a, b) == (0, 0) {
+        return (x, y) == (0, 0);
+    }
     in_column(a, b, (x, y)) || in_column(b, a, (y, x))
 }
 
@@ -324,6 +327,7 @@ mod tests {
         assert_eq!(count(Figure::Circle((20, 20), 2)), 12);
         assert_eq!(count(Figure::Circle((20, 20), 3)), 16);
         assert_eq!(count(Figure::Ellipse((20, 20), 3, 2)), 16);
+        assert_eq!(count(Figure::Ellipse((20, 20), 0, 0)), 1);
         for cell in [(0, 2), (1, 2), (2, 1), (3, 1), (3, 0)] {
             assert!(on_ellipse(3, 2, cell));
         }
@@ -342,10 +346,20 @@ mod tests {
 
     #[test]
     fn equal_axes_are_the_circle() {
-        for r in 1..=60 {
+        for r in 0..=60 {
             let cells = (-r..=r).flat_map(|x| (-r..=r).map(move |y| (x, y)));
             assert!(cells.into_iter().all(|cell| on_ellipse(r, r, cell) == on_circle(r, cell)), "radius {r}");
         }
+    }
+
+    #[test]
+    fn axes_within_their_limits() {
+        let named = |a: i64, b: i64| refusal(&Figure::Ellipse((0, 0), a, b));
+        assert_eq!([named(0, 0), named(1, 1), named(16_383, 1)], [None; 3]);
+        assert_eq!([named(0, 1), named(0, 16_384), named(16_384, 0), named(-1, 0)], [Some((3, 2)); 4]);
+        assert_eq!([named(1, 0), named(1, 16_384), named(1, -1)], [Some((3, 3)); 3]);
+        assert_eq!(refusal(&Figure::Circle((0, 0), 0)), None);
+        assert_eq!(refusal(&Figure::Circle((0, 0), 16_384)), Some((3, 2)));
     }
 
     #[test]

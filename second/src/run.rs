@@ -189,3 +189,61 @@ pub fn widened(figure: &Cells) -> Figure {
         }
     }
 }
+
+#[cfg(test)]
+mod tests {
+    use super::*;
+    use crate::rule::{refusal, Bad};
+    use std::cell::RefCell;
+    use std::collections::BTreeMap;
+
+    thread_local! {
+        /// The figures that were asked about since the last look.
+        static ASKED: RefCell<Vec<Figure>> = const { RefCell::new(Vec::new()) };
+    }
+
+    fn noted(figure: &Figure) -> Option<Bad> {
+        ASKED.with_borrow_mut(|asked| asked.push(figure.clone()));
+        refusal(figure)
+    }
+
+    const ZEROS: [&str; 4] = ["a radius of 0", "both axes 0", "the first axis 0", "the second axis 0"];
+
+    fn zeros(figure: &Figure) -> Option<&'static str> {
+        match *figure {
+            Figure::Circle(_, 0) => Some(ZEROS[0]),
+            Figure::Ellipse(_, 0, 0) => Some(ZEROS[1]),
+            Figure::Ellipse(_, 0, 1..) => Some(ZEROS[2]),
+            Figure::Ellipse(_, 1.., 0) => Some(ZEROS[3]),
+            _ => None,
+        }
+    }
+
+    #[test]
+    fn axes_of_0_come_in_cells_in_metres_and_in_files() {
+        let rules = Rules { refusal: noted, ..Rules::document() };
+        let mut seen: BTreeMap<(&str, &str), u32> = BTreeMap::new();
+        for seed in 0..20_000 {
+            for case in [Case::figure(seed), Case::file(seed), Case::damaged(seed)] {
+                let given = match case.job {
+                    Job::Cells(..) => "cells",
+                    Job::Metres(..) => "metres",
+                    Job::File(..) => "a file",
+                    _ => continue,
+                };
+                Outcome::before(&case).by_rules(&rules, &case.job);
+                for figure in ASKED.take() {
+                    if let Some(what) = zeros(&figure) {
+                        *seen.entry((given, what)).or_default() += 1;
+                    }
+                }
+            }
+        }
+        for given in ["cells", "metres", "a file"] {
+            for what in ZEROS {
+                let times = seen.get(&(given, what)).copied().unwrap_or_default();
+                assert!(times >= 20, "{what} in {given}: only {times} times");
+            }
+        }
+    }
+}

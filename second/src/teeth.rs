@@ -33,7 +33,12 @@ fn wrong_figures() -> Vec<(&'static str, Rules)> {
         ("a cell in metres is the nearest", Rules { cell: nearest, ..right }),
         ("a coordinate of 16,384 is taken for 16,383", Rules { refusal: one_more, ..right }),
         ("a radius is refused before a coordinate", Rules { refusal: radius_first, ..right }),
-        ("a semi-axis of 0 is drawn", Rules { refusal: flat, ..right }),
+        ("a single semi-axis of 0 is drawn", Rules { refusal: flat, ..right }),
+        ("of a single semi-axis of 0 the other is named", Rules { refusal: other_named, ..right }),
+        ("a semi-axis of 0 beside one above 16,383 is not named", Rules { refusal: larger_named, ..right }),
+        ("an ellipse with both axes 0 is refused", Rules { refusal: no_centre, ..right }),
+        ("an ellipse with both axes 0 has no cell", Rules { on_ellipse: from_one, ..right }),
+        ("a circle of radius 0 is refused", Rules { refusal: no_point, ..right }),
         ("a curve's middle control point may be outside the limits", Rules { refusal: middle_free, ..right }),
         ("s = 7 is drawn", Rules { refusal: seventh, ..right }),
         ("a file is drawn as it is read", Rules { reads_first: false, ..right }),
@@ -145,6 +150,33 @@ fn flat(figure: &Figure) -> Option<Bad> {
         Figure::Ellipse(centre, a, b) => refusal(&Figure::Ellipse(centre, a.max(1), b.max(1))),
         _ => refusal(figure),
     }
+}
+
+fn other_named(figure: &Figure) -> Option<Bad> {
+    match (figure, refusal(figure)) {
+        (Figure::Ellipse(_, 0, 1..), Some((3, 2))) => Some((3, 3)),
+        (Figure::Ellipse(_, 1.., 0), Some((3, 3))) => Some((3, 2)),
+        (_, found) => found,
+    }
+}
+
+fn larger_named(figure: &Figure) -> Option<Bad> {
+    match (figure, refusal(figure)) {
+        (Figure::Ellipse(_, 0, 16_384..), Some((3, 2))) => Some((3, 3)),
+        (_, found) => found,
+    }
+}
+
+fn no_centre(figure: &Figure) -> Option<Bad> {
+    refusal(figure).or(matches!(figure, Figure::Ellipse(_, 0, 0)).then_some((3, 2)))
+}
+
+fn no_point(figure: &Figure) -> Option<Bad> {
+    refusal(figure).or(matches!(figure, Figure::Circle(_, 0)).then_some((3, 2)))
+}
+
+fn from_one(a: i64, b: i64, (x, y): Cell) -> bool {
+    in_column(a, b, (x, y)) || in_column(b, a, (y, x))
 }
 
 fn middle_free(figure: &Figure) -> Option<Bad> {
