@@ -1,8 +1,8 @@
 -- How a ring lies on a sheet: the columns that may be its, and the rows.
 use Prim.Native.Nat.{ℕ, _+_, _-_, _≤_, _<_, min, max}
-use mathlib.Core.Path.{_≡_, refl, sym, _∙_}
+use mathlib.Core.Path.{_≡_, refl, sym}
 use mathlib.Core.Logic.{inl, inr}
-use mathlib.Core.Bool.{Bool, _&&_}
+use mathlib.Core.Bool.{Bool, true, false, _&&_, true≢false}
 use native.Mathlib.Omega.{arith}
 use borrow.Author.Tests.{leb-true}
 use lib.Dec.{leb}
@@ -27,11 +27,15 @@ module _ (m width i : ℕ) (h : i < width) where
         | inr l ↦ let e : off m i ≤ m - 65536 = omega arith in omega arith
       ]
 
-module _ (k : Shape) (p : Spot) (a b l r : ℕ) (w : Bool) (C : Centred p) (n : 1 ≤ k .width)
-    (pa : Axis a) (pb : Axis b) (g : w ≡ (leb (65536 + a) (p .x) && leb (p .x + a) (65535 + k .width))) where
-  lying : (f : ℕ) → ((i : ℕ) → i < k .width → l ≤ off (p .x) i) → ((i : ℕ) → i < k .width → off (p .x) i ≤ f) → r ≡ min a f
+module _ (k : Shape) (p : Spot) (a b : ℕ) (C : Centred p) (n : 1 ≤ k .width) (pa : Axis a) (pb : Axis b) where
+  farthest : ℕ
+  farthest = max (p .x - 65536) (65535 + k .width - p .x)
+
+  lying : (l r : ℕ) (w : Bool) → ((i : ℕ) → i < k .width → l ≤ off (p .x) i) → r ≡ min a farthest
+      → (w ≡ true → (65536 + a ≤ p .x) × (p .x + a < 65536 + k .width))
       → Placing k p a b (record { x = p .x; y = p .y; a = a; b = b; least = l; past = r + 1; whole = w })
-  lying f near far e =
+  unfolding farthest
+  lying l r w near e whole =
       record {
         at-x = refl;
         at-y = refl;
@@ -45,18 +49,26 @@ module _ (k : Shape) (p : Spot) (a b l r : ℕ) (w : Bool) (C : Centred p) (n : 
           near = near;
           far = λ i h. elim (lt-or-ge a (off (p .x) i)) [
             | inl m ↦ inr m
-            | inr m ↦ inl (omega (arith, far i h))
+            | inr m ↦ inl (omega (arith, far-is (p .x) (k .width) i h))
           ];
-          some = omega (arith, near 0 n, far 0 n);
+          some = omega (arith, near 0 n, far-is (p .x) (k .width) 0 n);
           most = omega arith;
-          whole = λ t.
-              let q = halves (leb (65536 + a) (p .x)) (leb (p .x + a) (65535 + k .width)) (sym g ∙ t) in
-              (leb-true (65536 + a) (p .x) (q .0), omega (arith, leb-true (p .x + a) (65535 + k .width) (q .1)));
+          whole = whole;
         };
         misses = λ o i h. omega (arith, near i h);
       }
 
-  pub placing : l ≡ max (65536 - p .x) (p .x - (65535 + k .width)) → r ≡ min a (max (p .x - 65536) (65535 + k .width - p .x))
-      → Placing k p a b (record { x = p .x; y = p .y; a = a; b = b; least = l; past = r + 1; whole = w })
-  placing e f =
-      lying (max (p .x - 65536) (65535 + k .width - p .x)) (λ i h. rw e (near-is (p .x) (k .width) i h)) (far-is (p .x) (k .width)) f
+  -- where all its columns are on the sheet, they are those from the middle to the axis
+  pub placing-whole : (leb (65536 + a) (p .x) && leb (p .x + a) (65535 + k .width)) ≡ true
+      → Placing k p a b (record { x = p .x; y = p .y; a = a; b = b; least = 0; past = a + 1; whole = true })
+  unfolding farthest
+  placing-whole e =
+      let q = halves (leb (65536 + a) (p .x)) (leb (p .x + a) (65535 + k .width)) e in
+      let l = leb-true (65536 + a) (p .x) (q .0) in
+      let m = leb-true (p .x + a) (65535 + k .width) (q .1) in
+      lying 0 a true (λ i h. omega arith) (omega arith) (λ t. (l, omega arith))
+
+  pub placing : (l r : ℕ) → l ≡ max (65536 - p .x) (p .x - (65535 + k .width)) → r ≡ min a (max (p .x - 65536) (65535 + k .width - p .x))
+      → Placing k p a b (record { x = p .x; y = p .y; a = a; b = b; least = l; past = r + 1; whole = false })
+  unfolding farthest
+  placing l r e f = lying l r false (λ i h. rw e (near-is (p .x) (k .width) i h)) f (λ t. absurd (true≢false (sym t)))

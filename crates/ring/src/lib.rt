@@ -62,6 +62,17 @@ fn placed(shape: Shape, centre: Spot, a: usize, b: usize) -> Ring
     let y = centre.y as usize;
     let width = shape.width as usize;
     let last = 65535 + width;
+    if (65536 + a <= x) & (x + a <= last) {
+        return Ring {
+            x,
+            y,
+            a,
+            b,
+            least: 0,
+            past: a + 1,
+            whole: true,
+        };
+    }
     Ring {
         x,
         y,
@@ -69,7 +80,7 @@ fn placed(shape: Shape, centre: Spot, a: usize, b: usize) -> Ring
         b,
         least: larger(less(65536, x), less(x, last)),
         past: smaller(a, larger(less(x, 65536), less(last, x))) + 1,
-        whole: (65536 + a <= x) & (x + a <= last),
+        whole: false,
     }
 }
 
