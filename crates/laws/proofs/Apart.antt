@@ -21,6 +21,10 @@ apart-same a = omega (arith, apart-is a a)
 pub apart-via : (a c b : ℤ) → apart a b ≤ apart a c + apart c b
 apart-via a c b = omega (arith, apart-is a b, apart-is a c, apart-is c b)
 
+-- and just so far where c stands between them
+pub apart-between : (a c b : ℤ) → up a + dn c ≤ up c + dn a → up c + dn b ≤ up b + dn c → apart a c + apart c b ≡ apart a b
+apart-between a c b h l = omega (arith, apart-is a b, apart-is a c, apart-is c b)
+
 pub apart-zero : (a b : ℤ) → apart a b ≡ 0 → a ≡ b
 apart-zero a b e = to-≡ℤ a b (omega (arith, apart-is a b))
 

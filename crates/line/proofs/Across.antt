@@ -8,22 +8,14 @@ use native.Mathlib.Omega.{arith}
 use Rattle.laws.proofs.Products.{lt-or-ge, mul-lt-back}
 use Rattle.line.specs.Inner.Course.{gap}
 use Rattle.line.specs.Rule.{rise}
-use Rattle.line.proofs.Rise.{rise-low, rise-high, rise-none, rise-start, rise-short}
+use Rattle.line.proofs.Rise.{rise-low, rise-high, rise-none, rise-start, rise-short, rise-end}
 
 -- within half a cell
 rise-half : (L S n : ℕ) → n ≤ L → 2 * gap (rise L S n * L) (n * S) ≤ L
 rise-half zero S n l = let e : n ≡ 0 = omega arith in rw e (omega arith)
 rise-half (suc L) S n l = omega (arith, rise-low (suc L) S n, rise-high (suc L) S n (omega arith))
 
--- S at the last cell, no more than S before it, and at most one more at the next
-rise-end : (L S : ℕ) → S ≤ L → rise L S L ≡ S
-rise-end zero S l = omega (arith, rise-none S 0)
-rise-end (suc L) S l =
-    let r = rise (suc L) S (suc L) in
-    let h = mul-lt-back (2 * suc L) r (S + 1) (omega (arith, rise-low (suc L) S (suc L))) in
-    let k = mul-lt-back (2 * suc L) S (r + 1) (omega (arith, rise-high (suc L) S (suc L) (omega arith))) in
-    omega arith
-
+-- at most one more at the next cell
 rise-grows : (L S n : ℕ) → S ≤ L → (rise L S n ≤ rise L S (n + 1)) × (rise L S (n + 1) ≤ rise L S n + 1)
 rise-grows zero S n l = omega (arith, rise-none S n, rise-none S (n + 1))
 rise-grows (suc L) S n l =
@@ -58,6 +50,29 @@ crossed-grows true L S n l h = rise-grows L S n l
 crossed-grows false L S n l h =
     let e : L - n ≡ L - (n + 1) + 1 = omega arith in
     omega (arith, rise-grows L S (L - (n + 1)) l, ap (rise L S) e, rise-short L S (L - n) (omega arith))
+
+-- so never more than the steps along,
+pub crossed-gentle : (t : Bool) (L S n d : ℕ) → S ≤ L → n + d ≤ L
+    → (crossed t L S n ≤ crossed t L S (n + d)) × (crossed t L S (n + d) ≤ crossed t L S n + d)
+crossed-gentle t L S n zero l h = let e : n + 0 ≡ n = omega arith in omega (arith, ap (crossed t L S) e)
+crossed-gentle t L S n (suc d) l h =
+    let e : n + suc d ≡ n + d + 1 = omega arith in
+    omega (arith, ap (crossed t L S) e, crossed-gentle t L S n d l (omega arith), crossed-grows t L S (n + d) l (omega arith))
+
+-- and just as many where the extents are equal
+pub crossed-diagonal : (t : Bool) (L n : ℕ) → n ≤ L → crossed t L L n ≡ n
+crossed-diagonal t L n h =
+    let e : n + (L - n) ≡ L = omega arith in
+    let f : 0 + n ≡ n = omega arith in
+    omega (
+      arith,
+      crossed-first t L L (omega arith),
+      crossed-last t L L (omega arith),
+      crossed-gentle t L L 0 n (omega arith) (omega arith),
+      ap (crossed t L L) f,
+      crossed-gentle t L L n (L - n) (omega arith) (omega arith),
+      ap (crossed t L L) e,
+    )
 
 -- within half a cell: none other is nearer. u − d is any whole number
 pub half-nearest : (L N M u d : ℕ) → 2 * gap (M * L) N ≤ L → gap (M * L) N ≤ gap (u * L) (d * L + N)

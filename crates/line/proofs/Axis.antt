@@ -55,6 +55,10 @@ toward-is a b p n e = by (leZ a b) e
     by true e = let u = simp parts at (from-≡ℤ (p -ℤ a) (pos n) e) in to-≡ℤ _ _ (omega (arith, plus-is a n))
     by false e = let u = simp parts at (from-≡ℤ (a -ℤ p) (pos n) e) in to-≡ℤ _ _ (omega (arith, minus-is a n))
 
+-- a place between the ends is as many steps on as it is away
+pub toward-between : (a b p : ℤ) → apart a p + apart p b ≡ apart a b → toward a b (apart a p) ≡ p
+toward-between a b p e = toward-is a b p (apart a p) (steps-between a b p (apart a p) (apart p b) (omega arith) (omega arith) e)
+
 -- the ends
 pub toward-first : (a b : ℤ) → toward a b 0 ≡ a
 toward-first a b = toward-is a b a 0 (steps-between a b a 0 (apart a b) (omega (arith, apart-same a)) (omega arith) (omega arith))

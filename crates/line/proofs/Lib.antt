@@ -10,6 +10,7 @@ pub mod Distances
 pub mod Distinct
 pub mod EitherEnd
 pub mod Filled
+pub mod Gentle
 pub mod Fixed
 pub mod Hops
 pub mod Least

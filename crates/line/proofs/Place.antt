@@ -16,7 +16,7 @@ use Rattle.line.proofs.Across.{crossed}
 use Rattle.line.proofs.Rise.{rise-short}
 
 -- the cell n along and m across, both from a towards b, where `up` says whether y is called the longer extent
-abbrev atBy : Bool → Cell → Cell → ℕ → ℕ → Cell
+abbrev pub atBy : Bool → Cell → Cell → ℕ → ℕ → Cell
 atBy up a b n m = record { x = toward (a .x) (b .x) (cond up m n); y = toward (a .y) (b .y) (cond up n m) }
 
 abbrev pub at : Cell → Cell → ℕ → ℕ → Cell
