@@ -3,43 +3,34 @@ use Prim.Native.Nat.{ℕ}
 use mathlib.Core.Path.{_≡_, refl, sym, ap, _∙_}
 use mathlib.Core.List.{List, [], _∷_}
 use mathlib.Core.Logic.{_↔_}
-use mathlib.Core.Bool.{Bool, true, false, cond}
+use mathlib.Core.Bool.{Bool, true, false}
 use lib.IntN.{pos}
 use lib.Dec.{T}
-use lib.ListN.{getD}
 use Rattle.laws.proofs.Tests.{is-true}
-use Rattle.sheet.specs.Sheet.{onSheet, place, paint, cellsOn}
+use Rattle.sheet.specs.Sheet.{paint, cellsOn}
 use Rattle.sheet.specs.Reply.{Answer, done, isDone}
 use Rattle.sheet.specs.declared.Cell.{Cell}
 use Rattle.sheet.specs.declared.Shape.{Shape}
-use Rattle.sheet.proofs.Paint.{paint-cell, paint-swap}
-use Rattle.sheet.proofs.Pitch.{cell-below}
+use Rattle.sheet.proofs.Paint.{paint-swap}
 use Rattle.fill.specs.Territory.{Open, Reach}
 use Rattle.fill.specs.Fill.{Fills}
 use Rattle.fill.proofs.Reaching.{reach-open, reach-as, tests-same}
-use Rattle.fill.proofs.Outcome.{finished}
+use Rattle.fill.proofs.Outcome.{finished, cell-after}
 use Rattle.fill.proofs.Territories.{in-common}
 
 -- A fill in an ink other than the boundary's changes no later reaching: what it set was open before, and is open still.
 module _ {k : Shape} {a : Cell} {b i p : ℕ} {lent : List ℕ} {r : Answer} {s : List ℕ}
     (F : Fills k a b i p lent r s) (d : isDone r ≡ true) (other : i ≡ b → ⊥) where
-  after : (c : Cell) → onSheet k c ≡ true → (t : Bool) → F .territory c ≡ t → getD s (place k c) 0 ≡ cond t i (getD lent (place k c) 0)
-  after c o t e =
-      let z = finished F d in
-      ap (λ (s : List ℕ). getD s (place k c) 0) (z .leaves)
-      ∙ paint-cell k i (z .sheet .disjoint) (F .territory) lent c o (cell-below k lent (z .sheet) c o)
-      ∙ ap (λ (t : Bool). cond t i (getD lent (place k c) 0)) e
-
   pub open-after : (c : Cell) → Open k b lent c ↔ Open k b s c
   open-after c = (there (F .territory c) refl, back (F .territory c) refl)
     where
       there : (t : Bool) → F .territory c ≡ t → Open k b lent c → Open k b s c
-      there true e o = record { on = o .on; other = λ q. other (sym (after c (o .on) true e) ∙ q) }
-      there false e o = record { on = o .on; other = λ q. o .other (sym (after c (o .on) false e) ∙ q) }
+      there true e o = record { on = o .on; other = λ q. other (sym (cell-after F d c (o .on) true e) ∙ q) }
+      there false e o = record { on = o .on; other = λ q. o .other (sym (cell-after F d c (o .on) false e) ∙ q) }
 
       back : (t : Bool) → F .territory c ≡ t → Open k b s c → Open k b lent c
       back true e o = reach-open (F .decides d .only c e)
-      back false e o = record { on = o .on; other = λ q. o .other (after c (o .on) false e ∙ q) }
+      back false e o = record { on = o .on; other = λ q. o .other (cell-after F d c (o .on) false e ∙ q) }
 
   pub reach-after : (c e : Cell) → Reach k b lent c e ↔ Reach k b s c e
   reach-after c e = (reach-as (λ c. open-after c .0), reach-as (λ c. open-after c .1))

@@ -2,11 +2,11 @@
 use Prim.Native.Nat.{ℕ, _*_}
 use mathlib.Core.Path.{_≡_, refl, sym, ap, _∙_}
 use mathlib.Core.List.{List, [], _∷_}
-use mathlib.Core.Bool.{Bool, true, false, true≢false}
+use mathlib.Core.Bool.{Bool, true, false, cond, true≢false}
 use lib.Dec.{leb}
 use lib.IntN.{ℤ, pos}
-use lib.ListN.{length}
-use Rattle.sheet.specs.Sheet.{sized, sliced, onSheet, paint, cellsOn}
+use lib.ListN.{length, getD}
+use Rattle.sheet.specs.Sheet.{sized, sliced, onSheet, place, paint, cellsOn}
 use Rattle.sheet.specs.Reply.{Answer, done, unless, isDone}
 use Rattle.sheet.specs.Drawing.{Draws, ifSheet}
 use Rattle.sheet.specs.Inner.{Sheet}
@@ -16,6 +16,8 @@ use Rattle.sheet.specs.declared.Refusal.the-variants.{Size, Slice, Work, Start}
 use Rattle.sheet.proofs.Draws.{drawn, draws-as}
 use Rattle.sheet.proofs.Lent.{if-sheet, done-sheet}
 use Rattle.sheet.proofs.Limits.{fits-sheet}
+use Rattle.sheet.proofs.Paint.{paint-cell}
+use Rattle.sheet.proofs.Pitch.{cell-below}
 use Rattle.fill.specs.Territory.{Territory}
 use Rattle.fill.specs.Fill.{fillAnswer, fillDrawing, Fills}
 
@@ -54,6 +56,22 @@ finished {k} {a} {b} {i} {p} {lent} {r} {s} F d =
       tells = F .draws .tells ∙ g ∙ h .1;
       leaves = drawn (fillDrawing k a i (F .territory) p) lent r s (F .draws) e;
     }
+
+-- Each cell of the sheet after it: the ink where it is of the territory, and else as it was lent.
+pub cell-after : {k : Shape} {a : Cell} {b i p : ℕ} {lent : List ℕ} {r : Answer} {s : List ℕ} (F : Fills k a b i p lent r s)
+    → isDone r ≡ true → (c : Cell) → onSheet k c ≡ true → (t : Bool) → F .territory c ≡ t → getD s (place k c) 0 ≡ cond t i (getD lent (place k c) 0)
+cell-after {k} {i = i} {lent = lent} F d c o t e =
+    let z = finished F d in
+    ap (λ (s : List ℕ). getD s (place k c) 0) (z .leaves)
+    ∙ paint-cell k i (z .sheet .disjoint) (F .territory) lent c o (cell-below k lent (z .sheet) c o)
+    ∙ ap (λ (t : Bool). cond t i (getD lent (place k c) 0)) e
+
+-- A fill that is refused leaves the bytes as they were lent.
+pub refused-keeps : {k : Shape} {a : Cell} {b i p : ℕ} {lent : List ℕ} {r : Answer} {s : List ℕ} → Fills k a b i p lent r s
+    → isDone r ≡ false → s ≡ lent
+refused-keeps F e =
+    let u = sym (ap isDone (F .draws .tells)) ∙ e in
+    F .draws .leaves ∙ simp u
 
 -- Whether a fill is done does not turn on the test, nor does the reply where it is not.
 abbrev answered : Bool → Bool → Bool → Bool → List ℤ → Answer
