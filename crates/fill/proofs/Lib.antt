@@ -11,4 +11,8 @@ pub mod Unique
 pub mod Territories
 pub mod Order
 pub mod Pitch
+pub mod Sides
+pub mod Lines
+pub mod Rings
+pub mod Crossing
 pub mod Examples

@@ -1,3 +1,4 @@
 pub mod Territory
 pub mod Fill
+pub mod Crossing
 pub mod Inner
