@@ -1,8 +1,10 @@
 //! A second drawing program, written from documents 01 and 02 by membership, and what compares it with the library.
 pub mod case;
 pub mod chance;
+mod chance_crossing;
 mod chance_file;
 mod chance_fill;
+pub mod crossing;
 pub mod file;
 pub mod ground;
 pub mod guard;
@@ -13,6 +15,7 @@ pub mod random;
 pub mod rule;
 pub mod run;
 pub mod teeth;
+pub mod teeth_crossing;
 mod teeth_fill;
 pub mod territory;
 pub mod watched;

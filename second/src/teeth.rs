@@ -54,7 +54,7 @@ fn wrong_figures() -> Vec<(&'static str, Rules)> {
     ]
 }
 
-fn without_last(from: Cell, to: Cell) -> Vec<Cell> {
+pub fn without_last(from: Cell, to: Cell) -> Vec<Cell> {
     let mut cells = line_cells(from, to);
     cells.pop();
     cells
@@ -105,12 +105,12 @@ fn circle_inside_edge(r: i64, (x, y): Cell) -> bool {
     (y >= 1 && y * (y - 1) <= rest && rest <= y * (y + 1)) || (y == 0 && r == 0)
 }
 
-fn sloped(a: i64, b: i64, (x, y): Cell) -> bool {
+pub fn sloped(a: i64, b: i64, (x, y): Cell) -> bool {
     let (across, down) = (b * b * x.abs(), a * a * y.abs());
     (across <= down && in_column(a, b, (x, y))) || (across >= down && in_column(b, a, (y, x)))
 }
 
-fn nearest_in_both(a: i64, b: i64, (x, y): Cell) -> bool {
+pub fn nearest_in_both(a: i64, b: i64, (x, y): Cell) -> bool {
     in_column(a, b, (x, y)) && in_column(b, a, (y, x))
 }
 

@@ -32,7 +32,7 @@ pub fn wrong_fills() -> Vec<(&'static str, Rules)> {
     ]
 }
 
-fn by_corners(sheet: &Sheet, fill: Fill) -> Vec<Cell> {
+pub fn by_corners(sheet: &Sheet, fill: Fill) -> Vec<Cell> {
     let steps = [SIDES, [(-1, -1), (1, -1), (-1, 1), (1, 1)]].concat();
     reached(sheet, &[fill.cell()], &steps, |ink| ink != fill.boundary)
 }
@@ -66,7 +66,7 @@ fn from_boundary(sheet: &Sheet, fill: Fill) -> Vec<Cell> {
 }
 
 /// Goes on from the ends of rows until nothing new is reached.
-fn round_the_end(sheet: &Sheet, fill: Fill) -> Vec<Cell> {
+pub fn round_the_end(sheet: &Sheet, fill: Fill) -> Vec<Cell> {
     let last = sheet.shape.width - 1;
     let mut cells = territory(sheet, fill);
     loop {
@@ -81,7 +81,7 @@ fn round_the_end(sheet: &Sheet, fill: Fill) -> Vec<Cell> {
     }
 }
 
-fn through_padding(sheet: &Sheet, fill: Fill) -> Vec<Cell> {
+pub fn through_padding(sheet: &Sheet, fill: Fill) -> Vec<Cell> {
     let mut bytes = sheet.bytes.to_vec();
     let shape = Shape { width: sheet.shape.pitch, ..sheet.shape };
     let mut cells = territory(&Sheet { shape, bytes: &mut bytes }, fill);
