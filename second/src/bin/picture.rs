@@ -1,7 +1,7 @@
 //! Draws a record file with the proved library on a sheet of 96 by 64, and writes the sheet as SVG. With a file of boundaries
-//! and a start in each of two territories that they bound, fills these first.
+//! and a start in each of some territories that they bound, fills these first.
 //!
-//!     picture FILE [BOUNDARIES X Y X Y]
+//!     picture TITLE FILE [BOUNDARIES X Y [X Y [X Y]]]
 use second::native::{self, Fill, Lent};
 use std::process::ExitCode;
 
@@ -21,9 +21,9 @@ const INKS: [(&str, &str); 5] = [
     ("rings", "#bf6a4f"),
 ];
 
-/// The ink of a boundary, and those of two territories.
+/// The ink of a boundary, and those of territories.
 const BOUNDARY: u8 = 4;
-const TERRITORIES: [(u8, &str); 2] = [(6, "#f3ddb8"), (7, "#d5e3e6")];
+const TERRITORIES: [(u8, &str); 3] = [(6, "#f3ddb8"), (7, "#d5e3e6"), (8, "#ecd0c6")];
 
 /// The outline of each run of cells with this ink, row by row.
 fn runs(sheet: &[u8], ink: u8) -> String {
@@ -46,17 +46,18 @@ fn grid(step: usize) -> String {
     down.chain(across).collect()
 }
 
-fn svg(sheet: &[u8]) -> String {
+fn svg(title: &str, sheet: &[u8]) -> String {
     let (wide, high) = (WIDTH + 6, HEIGHT + 11);
     let mut text = format!(
         "<svg xmlns=\"http://www.w3.org/2000/svg\" viewBox=\"-3 -3 {wide} {high}\" width=\"{}\" height=\"{}\">\n\
-         <title>A harbour and its district, drawn by Pistonwool on a sheet of {WIDTH} by {HEIGHT}</title>\n\
+         <title>{title}, drawn by Pistonwool on a sheet of {WIDTH} by {HEIGHT}</title>\n\
          <rect x=\"-3\" y=\"-3\" width=\"{wide}\" height=\"{high}\" rx=\"2\" fill=\"{PAPER}\"/>\n",
         8 * wide,
         8 * high,
     );
-    let figures = (1..).zip(INKS).map(|(ink, (_, colour))| (ink, colour));
-    for (ink, colour) in TERRITORIES.into_iter().filter(|(ink, _)| sheet.contains(ink)).chain(figures) {
+    let figures: Vec<(u8, (&str, &str))> = (1..).zip(INKS).filter(|(ink, _)| sheet.contains(ink)).collect();
+    let territories = TERRITORIES.into_iter().filter(|(ink, _)| sheet.contains(ink));
+    for (ink, colour) in territories.chain(figures.iter().map(|&(ink, (_, colour))| (ink, colour))) {
         text += &format!("<path fill=\"{colour}\" d=\"{}\"/>\n", runs(sheet, ink));
     }
     // over the cells, so that each stands apart from the next
@@ -64,7 +65,7 @@ fn svg(sheet: &[u8]) -> String {
         text += &format!("<path stroke=\"{GRID}\" stroke-width=\"{thick}\" d=\"{}\"/>\n", grid(step));
     }
     text += &format!("<g font-family=\"sans-serif\" font-size=\"2.4\" fill=\"{WORDS}\">\n");
-    for (i, (name, colour)) in INKS.iter().enumerate() {
+    for (i, (_, (name, colour))) in figures.iter().enumerate() {
         let (x, y) = (1 + 19 * i, HEIGHT + 3);
         text += &format!("<rect x=\"{x}\" y=\"{y}\" width=\"2\" height=\"2\" fill=\"{colour}\"/>");
         text += &format!("<text x=\"{}\" y=\"{}.85\">{name}</text>\n", x + 3, y + 1);
@@ -102,25 +103,28 @@ impl Map {
     }
 }
 
-fn picture(words: &[String]) -> Result<String, String> {
+fn picture(title: &str, file: &str, bounded: &[String]) -> Result<String, String> {
     let mut map = Map(vec![0; WIDTH * HEIGHT]);
-    if let [_, boundaries, starts @ ..] = words {
+    if let [boundaries, starts @ ..] = bounded {
         map.draw(boundaries)?;
         for (start, (ink, _)) in starts.chunks(2).zip(TERRITORIES) {
             map.fill(&start[0], &start[1], ink)?;
         }
     }
-    map.draw(&words[0])?;
-    Ok(svg(&map.0))
+    map.draw(file)?;
+    Ok(svg(title, &map.0))
 }
 
 fn main() -> ExitCode {
     let words: Vec<String> = std::env::args().skip(1).collect();
-    if ![1, 6].contains(&words.len()) {
-        eprintln!("usage: picture FILE [BOUNDARIES X Y X Y]");
-        return ExitCode::from(2);
-    }
-    match picture(&words) {
+    let drawn = match &words[..] {
+        [title, file, bounded @ ..] if [0, 3, 5, 7].contains(&bounded.len()) => picture(title, file, bounded),
+        _ => {
+            eprintln!("usage: picture TITLE FILE [BOUNDARIES X Y [X Y [X Y]]]");
+            return ExitCode::from(2);
+        }
+    };
+    match drawn {
         Ok(text) => {
             print!("{text}");
             ExitCode::SUCCESS
