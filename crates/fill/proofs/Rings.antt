@@ -29,9 +29,13 @@ record Under (test : ℕ → Bool) (n : ℕ) : Type 0 where
 abbrev Over : (ℕ → Bool) → ℕ → Type 0
 Over test n = (u : ℕ) → T (test u) → u < n
 
--- there is room for what passes between the two
+-- there is room for what passes between the two,
 room : {test : ℕ → Bool} {n m : ℕ} → Under test n → Over test m → n + 2 ≤ m
 room p q = let u = p .some in omega (arith, p .all (u .0) (u .1), q (u .0) (u .1))
+
+-- so that no single step leads past it
+no-step : (test : ℕ → Bool) (z w v : ℤ) → apart w v ≤ 1 → Under test (apart z w) → Over test (apart z v) → ⊥
+no-step test z w v l p q = omega (arith, room p q, apart-via z w v)
 
 module _ {a b : ℕ} {test : ℕ → ℕ → Bool} (s : Stairs a b test) where
   -- a place is nearer in its row than the stairs, on them, or further
@@ -85,8 +89,8 @@ module _ (figure : Cell → Bool) (m c : Cell) (test : ℕ → Bool) (reads : (x
       let e = apart-plus (m .x) (pos u) in
       (x, e, reads x ∙ ap test e ∙ is-true (test u) t)
 
-  near : Within figure m c ↔ Under test (wide m c)
-  near = (
+  within-is : Within figure m c ↔ Under test (wide m c)
+  within-is = (
     λ w. record {
       some = let u = w .some in (apart (m .x) (u .0), from-true _ (sym (reads (u .0)) ∙ u .1));
       all = λ u t. let x = at u t in subst (λ (n : ℕ). wide m c < n) (x .1) (w .all (x .0) (x .2));
@@ -97,8 +101,8 @@ module _ (figure : Cell → Bool) (m c : Cell) (test : ℕ → Bool) (reads : (x
     },
   )
 
-  off : Outside figure m c ↔ Over test (wide m c)
-  off = (
+  outside-is : Outside figure m c ↔ Over test (wide m c)
+  outside-is = (
     λ w u t. let x = at u t in subst (λ (n : ℕ). n < wide m c) (x .1) (w (x .0) (x .2)),
     λ p x e. p (apart (m .x) x) (from-true _ (sym (reads x) ∙ e)),
   )
@@ -116,19 +120,19 @@ module _ (m : Cell) (a b : ℕ) (e : eqb a 0 ≡ eqb b 0) where
 
   within-row : (c : Cell) → Within (onEllipse m a b) m c ↔ Under (row c) (wide m c)
   unfolding around
-  within-row c = near (onEllipse m a b) m c (row c) (λ x. refl)
+  within-row c = within-is (onEllipse m a b) m c (row c) (λ x. refl)
 
   outside-row : (c : Cell) → Outside (onEllipse m a b) m c ↔ Over (row c) (wide m c)
   unfolding around
-  outside-row c = off (onEllipse m a b) m c (row c) (λ x. refl)
+  outside-row c = outside-is (onEllipse m a b) m c (row c) (λ x. refl)
 
   within-column : (c : Cell) → Within (exchanged (onEllipse m a b)) (exchange m) (exchange c) ↔ Under (column c) (tall m c)
   unfolding around
-  within-column c = near (exchanged (onEllipse m a b)) (exchange m) (exchange c) (column c) (λ x. refl)
+  within-column c = within-is (exchanged (onEllipse m a b)) (exchange m) (exchange c) (column c) (λ x. refl)
 
   outside-column : (c : Cell) → Outside (exchanged (onEllipse m a b)) (exchange m) (exchange c) ↔ Over (column c) (tall m c)
   unfolding around
-  outside-column c = off (exchanged (onEllipse m a b)) (exchange m) (exchange c) (column c) (λ x. refl)
+  outside-column c = outside-is (exchanged (onEllipse m a b)) (exchange m) (exchange c) (column c) (λ x. refl)
 
   -- both give the same cells
   pub within-turned : (c : Cell) → Within (onEllipse m a b) m c ↔ Within (exchanged (onEllipse m a b)) (exchange m) (exchange c)
@@ -150,13 +154,12 @@ module _ (m : Cell) (a b : ℕ) (e : eqb a 0 ≡ eqb b 0) where
         | inl l ↦
             let e : wide m d ≡ wide m c = ap (apart (m .x)) (sym (apart-zero (c .x) (d .x) (omega arith))) in
             let r = outside-column d .0 (outside-turned d .0 q) in
-            let h = room (within-column c .0 (within-turned c .0 p)) (subst (λ (w : ℕ). Over (ellipseRule a b w) (tall m d)) e r) in
-            omega (arith, apart-via (m .y) (c .y) (d .y))
+            no-step (column c) (m .y) (c .y) (d .y) (omega arith) (within-column c .0 (within-turned c .0 p))
+            (subst (λ (w : ℕ). Over (ellipseRule a b w) (tall m d)) e r)
         | inr l ↦
             let e : tall m d ≡ tall m c = ap (apart (m .y)) (sym (apart-zero (c .y) (d .y) (omega arith))) in
-            let r = outside-row d .0 q in
-            let h = room (within-row c .0 p) (subst (λ (t : ℕ). Over (λ (u : ℕ). ellipseRule a b u t) (wide m d)) e r) in
-            omega (arith, apart-via (m .x) (c .x) (d .x))
+            no-step (row c) (m .x) (c .x) (d .x) (omega arith) (within-row c .0 p)
+            (subst (λ (t : ℕ). Over (λ (u : ℕ). ellipseRule a b u t) (wide m d)) e (outside-row d .0 q))
       ]
 
   ring-each : (c : Cell) → Within (onEllipse m a b) m c ⊎ Outside (onEllipse m a b) m c ⊎ (onEllipse m a b c ≡ true)
