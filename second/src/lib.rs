@@ -8,6 +8,7 @@ pub mod crossing;
 pub mod file;
 pub mod ground;
 pub mod guard;
+pub mod many;
 pub mod metres;
 pub mod native;
 pub mod pen;

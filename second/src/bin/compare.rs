@@ -5,9 +5,10 @@
 //!     compare --teeth                  wrong second programs, each of which must be caught
 use second::case::{Case, Job};
 use second::guard::{Against, Guarded};
+use second::many::{count, nth_seed, on_all_processors};
 use second::rule::Rules;
 use second::run::Room;
-use second::{random::Random, teeth};
+use second::teeth;
 use std::cell::Cell;
 use std::collections::BTreeMap;
 use std::process::{Command, ExitCode};
@@ -57,9 +58,9 @@ fn compare(room: &mut Room, rules: &Rules, case: &Case) -> Result<(u32, bool), S
     compared
 }
 
-/// The ith case of a run: its own seed, whichever thread it falls to.
+/// The ith case of a run.
 fn case(make: Make, seed: u64, i: u64) -> Case {
-    make(Random(seed ^ i.wrapping_mul(0xd134_2543_de82_ef95)).number())
+    make(nth_seed(seed, i))
 }
 
 /// How often an export gave each reply, how often it changed a sheet, list or pen, and how often a sheet with padding.
@@ -105,7 +106,7 @@ fn run(name: &str, make: Make, count: u64, seed: u64) -> bool {
     let began = Instant::now();
     let (next, differences) = (AtomicU64::new(0), AtomicU64::new(0));
     let tally = Mutex::new(Tally::default());
-    let work = || {
+    on_all_processors(|| {
         let mut room = Room::default();
         let mut own = Tally::default();
         loop {
@@ -123,9 +124,7 @@ fn run(name: &str, make: Make, count: u64, seed: u64) -> bool {
             }
         }
         tally.lock().expect("no thread stops").join(&own);
-    };
-    let threads = std::thread::available_parallelism().map_or(1, usize::from);
-    std::thread::scope(|scope| (0..threads).for_each(|_| _ = scope.spawn(work)));
+    });
     let differences = differences.into_inner();
     println!("{name}: {count} with seed {seed}, {differences} differences, {:.1} s", began.elapsed().as_secs_f64());
     tally.into_inner().expect("no thread stops").print();
@@ -159,12 +158,6 @@ fn touch(side: &str) {
     let lent = guarded.lend::<u8>(1000, if before { Against::Before } else { Against::After });
     // SAFETY: none; this is to end the program.
     unsafe { lent.as_mut_ptr().offset(if before { -1 } else { 1000 }).write_volatile(1) };
-}
-
-fn count(results: impl IntoIterator<Item = bool>) -> ExitCode {
-    let (passed, failed): (Vec<bool>, Vec<bool>) = results.into_iter().partition(|&passed| passed);
-    println!("{} passed, {} failed", passed.len(), failed.len());
-    ExitCode::from(u8::from(!failed.is_empty()))
 }
 
 fn usage() -> ExitCode {

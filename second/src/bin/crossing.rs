@@ -4,7 +4,7 @@
 //!     crossing --teeth           by wrong programs, each of which must be caught leaking
 //!     crossing --leak            how a ring of the base leaked: what examples/leak.txt has
 use second::crossing::{sides, way, Crossing, Done, Fault, Kit, Where, BOUNDARY};
-use second::random::Random;
+use second::many::{count, nth_seed, on_all_processors};
 use second::rule::{place, Cell, Figure, Rules, Shape, Sheet};
 use second::teeth_crossing::{base_ellipse, leaking_programs};
 use std::process::ExitCode;
@@ -17,7 +17,7 @@ const PATIENCE: u64 = 100_000;
 
 /// The ith boundary of a run.
 fn crossing(seed: u64, i: u64) -> Crossing {
-    Crossing::at_random(Random(seed ^ i.wrapping_mul(0xd134_2543_de82_ef95)).number())
+    Crossing::at_random(nth_seed(seed, i))
 }
 
 fn kind(crossing: &Crossing) -> usize {
@@ -33,7 +33,7 @@ fn run(count: u64, seed: u64) -> bool {
     let began = Instant::now();
     let (next, faults) = (AtomicU64::new(0), AtomicU64::new(0));
     let tally = Mutex::new([(0_u64, Done::default()); 3]);
-    let work = || {
+    on_all_processors(|| {
         let mut own = [(0, Done::default()); 3];
         loop {
             let i = next.fetch_add(1, Relaxed);
@@ -55,9 +55,7 @@ fn run(count: u64, seed: u64) -> bool {
         }
         let mut all = tally.lock().expect("no thread stops");
         all.iter_mut().zip(own).for_each(|(sum, more)| *sum = (sum.0 + more.0, sum.1 + more.1));
-    };
-    let threads = std::thread::available_parallelism().map_or(1, usize::from);
-    std::thread::scope(|scope| (0..threads).for_each(|_| _ = scope.spawn(work)));
+    });
     println!("{count} boundaries with seed {seed}, {:.1} s", began.elapsed().as_secs_f64());
     let tally = tally.into_inner().expect("no thread stops");
     for (name, (times, Done { paths, fills, cells })) in ["level lines", "upright lines", "rings"].iter().zip(tally) {
@@ -118,12 +116,6 @@ fn leak() -> ExitCode {
     let before = show("By the base's rule", Kit::Program(base), base);
     let now = show("By the library", Kit::Library, Rules::document());
     ExitCode::from(u8::from(!before || now))
-}
-
-fn count(results: impl IntoIterator<Item = bool>) -> ExitCode {
-    let (passed, failed): (Vec<bool>, Vec<bool>) = results.into_iter().partition(|&passed| passed);
-    println!("{} passed, {} failed", passed.len(), failed.len());
-    ExitCode::from(u8::from(!failed.is_empty()))
 }
 
 fn main() -> ExitCode {
