@@ -92,7 +92,7 @@ uint32_t pw_curve(uint8_t *sheet, size_t len, uint32_t width, uint32_t height, u
  * neighbour on the sheet without entering a cell of the boundary ink, judged on the sheet as it is lent. *cells is then how
  * many they are. If the start has the boundary ink, nothing is set and *cells is 0. The two inks may be equal. The start
  * has no limits of its own: one that is off the sheet, however far, is refused with PW_START.
- * No fill crosses an ellipse drawn in the boundary ink, nor a line drawn in it from the sheet's left side to its right with
+ * No fill crosses an ellipse whose cells have the boundary ink, nor such a line from the sheet's left side to its right with
  * |dy| <= |dx|, or from top to bottom with |dx| <= |dy|; the ends may be at these sides or beyond them.
  * The work slice is room for the fill: width x height places or more, one for each cell. What it holds before does not
  * matter; after a done fill it holds whatever the fill left in it, and a refusal leaves it as it was. */
