@@ -1,24 +1,28 @@
 -- Drawing a line, by the course that the code walks.
 use Prim.Native.Nat.{ℕ, _+_}
-use mathlib.Core.Path.{_≡_, sym, ap, ap₂, _∙_}
+use mathlib.Core.Path.{_≡_, refl, sym, ap, ap₂, _∙_}
 use mathlib.Core.List.{List, [], _∷_}
-use mathlib.Core.Bool.{true, _&&_}
+use mathlib.Core.Bool.{Bool, true, false, _&&_}
 use native.Mathlib.Omega.{arith}
 use lib.ListN.{length}
-use lib.IntN.{pos}
+use lib.Dec.{leb}
+use lib.IntN.{ℤ, pos}
+use borrow.Author.Tests.{leb-true, leb-false}
 use Rattle.laws.specs.Below.{any}
 use Rattle.laws.proofs.Below.{any-as}
-use Rattle.sheet.specs.Sheet.{inLimits, cellOf, isCell, paint, cellsOn}
-use Rattle.sheet.specs.Reply.{Answer, done, isDone}
-use Rattle.sheet.specs.Drawing.{Draws}
-use Rattle.sheet.specs.Inner.{movedCell, fits}
+use Rattle.laws.proofs.Ints.{parts, one-zero}
+use Rattle.sheet.specs.Sheet.{sized, sliced, coordinate, inLimits, cellOf, isCell, paint, cellsOn}
+use Rattle.sheet.specs.Reply.{Answer, done, refuse, unless, isDone, settled}
+use Rattle.sheet.specs.Drawing.{Draws, ifSheet}
+use Rattle.sheet.specs.Inner.{Moved, moved, unmoved, movedCell, unmovedCell, fits}
 use Rattle.sheet.specs.declared.Cell.{Cell}
 use Rattle.sheet.specs.declared.Shape.{Shape}
 use Rattle.sheet.specs.declared.Spot.{Spot}
+use Rattle.sheet.specs.declared.Refusal.the-variants.{Size, Slice, Coordinate}
 use Rattle.sheet.proofs.Count.{cells-as}
-use Rattle.sheet.proofs.Draws.{draws, drawn}
+use Rattle.sheet.proofs.Draws.{draws, drawn, draws-as}
 use Rattle.sheet.proofs.Lent.{if-sheet}
-use Rattle.sheet.proofs.Limits.{LiftedCell}
+use Rattle.sheet.proofs.Limits.{LiftedCell, lift-in, limit-low, limit-high, limit-below, limit-above, limits-x, limits-y, moved-in, moved-out, stands-parts}
 use Rattle.sheet.proofs.Paint.{paint-as}
 use Rattle.line.specs.Rule.{long, nth, onLine}
 use Rattle.line.specs.Draw.{lineAnswer, lineDrawing}
@@ -45,15 +49,80 @@ module _ (k : Shape) (a b : Cell) where
   line-drawn ink s t r e f g h =
       drawn (lineDrawing k ink a b) s r t h (ap isDone (line-inside (length s) e (ap₂ _&&_ f g)))
 
-  module _ (p q : Spot) (c : Course) (f : (inLimits a && inLimits b) ≡ true) (ep : p ≡ movedCell a) (eq : q ≡ movedCell b) (ec : c ≡ courseOf p q) where
+  module _ (p q : Spot) (c : Course) (P : LiftedCell a p) (Q : LiftedCell b q) (ec : c ≡ courseOf p q) where
     pub line-runs : Runs c
-    line-runs = let l = ends-lifted a b f p q ep eq in rw ec (course-runs a b p q (l .0) (l .1))
+    line-runs = rw ec (course-runs a b p q P Q)
 
     cells : (d : Cell) → firstCells c (c .long + 1) d ≡ onLine a b d
-    cells d = ap (λ (c : Course). firstCells c (c .long + 1) d) ec ∙ line-cells a b p q (ends-lifted a b f p q ep eq .0) (ends-lifted a b f p q ep eq .1) d
+    cells d = ap (λ (c : Course). firstCells c (c .long + 1) d) ec ∙ line-cells a b p q P Q d
 
-    pub line-done : (ink n : ℕ) (s t : List ℕ) → fits k (length s) ≡ true → n ≡ cellsOn k (firstCells c (c .long + 1)) → t ≡ paint k ink (firstCells c (c .long + 1)) s
+    pub line-done : (ink n : ℕ) (s t : List ℕ) → fits k (length s) ≡ true → (inLimits a && inLimits b) ≡ true
+        → n ≡ cellsOn k (firstCells c (c .long + 1)) → t ≡ paint k ink (firstCells c (c .long + 1)) s
         → Draws (lineDrawing k ink a b) s (done (pos n ∷ [])) t
-    line-done ink n s t e en et =
+    line-done ink n s t e f en et =
         let m : n ≡ cellsOn k (onLine a b) = en ∙ cells-as k _ _ (λ x y u v. cells (cellOf x y)) in
         draws _ s _ t (line-inside (length s) e f ∙ ap (λ (n : ℕ). done (pos n ∷ [])) (sym m)) (et ∙ paint-as k ink _ _ s (λ x y u v. cells (cellOf x y)))
+
+-- a spot that stands for a cell within the limits is that cell, lifted
+moved-of : (m : ℕ) → coordinate (unmoved m) ≡ true → Moved m
+moved-of m e =
+    let z = unmoved m in
+    let s = stands-parts m z refl in
+    record { least = omega (arith, limit-low z e, one-zero z); most = omega (arith, limit-high z e, one-zero z) }
+
+pub spot-lifted : (p : Spot) → inLimits (unmovedCell p) ≡ true → LiftedCell (unmovedCell p) p
+spot-lifted p e = record { inside-x = moved-of (p .x) (limits-x _ e); inside-y = moved-of (p .y) (limits-y _ e); stands = refl }
+
+-- the code's test of that
+moved-test : (m : ℕ) → (leb 49152 m && leb m 81919) ≡ coordinate (unmoved m)
+moved-test m = by (leb 49152 m) (leb m 81919) refl refl
+  where
+    by : (t u : Bool) → leb 49152 m ≡ t → leb m 81919 ≡ u → (t && u) ≡ coordinate (unmoved m)
+    by true true e f = sym (moved-in m (record { least = leb-true 49152 m e; most = leb-true m 81919 f }))
+    by true false e f = sym (limit-above (unmoved m) (simp parts (omega (arith, leb-false m 81919 f))))
+    by false u e f = sym (limit-below (unmoved m) (simp parts (omega (arith, leb-false 49152 m e))))
+
+pub spot-test : (p : Spot) → ((leb 49152 (p .x) && leb (p .x) 81919) && (leb 49152 (p .y) && leb (p .y) 81919)) ≡ inLimits (unmovedCell p)
+unfolding inLimits
+spot-test p = λ i. moved-test (p .x) i && moved-test (p .y) i
+
+-- a line between the lifted ends is the line between the ends; outside the limits both are refused
+lifted-limit : (z : ℤ) → coordinate (unmoved (moved z)) ≡ coordinate z
+lifted-limit z = by (coordinate z) refl
+  where
+    by : (t : Bool) → coordinate z ≡ t → coordinate (unmoved (moved z)) ≡ coordinate z
+    by true e = ap coordinate (lift-in z (moved z) e refl .stands)
+    by false e = ap (λ (m : ℕ). coordinate (unmoved m)) (moved-out z e) ∙ limit-below (unmoved 0) (omega arith) ∙ sym e
+
+lifted-limits : (c : Cell) → inLimits (unmovedCell (movedCell c)) ≡ inLimits c
+unfolding inLimits
+lifted-limits c = λ i. lifted-limit (c .x) i && lifted-limit (c .y) i
+
+outside : (k : Shape) (a b : Cell) (n : ℕ) → (inLimits a && inLimits b) ≡ false → lineAnswer k a b n ≡ ifSheet k n (refuse Coordinate)
+unfolding lineAnswer
+outside k a b n e = simp e
+
+not-done : (k : Shape) (n : ℕ) → isDone (ifSheet k n (refuse Coordinate)) ≡ false
+unfolding ifSheet
+not-done k n = by (sized k) (sliced k n)
+  where
+    by : (t u : Bool) → isDone (unless t Size (unless u Slice (refuse Coordinate))) ≡ false
+    by true true = refl
+    by true false = refl
+    by false u = refl
+
+untouched : (a r : Answer) (t s : List ℕ) → a ≡ r → isDone r ≡ false → settled a t s ≡ s
+untouched a r t s e o = simp (e, o)
+
+pub line-lifted : (k : Shape) (ink : ℕ) (a b : Cell) (p q : Spot) (s t : List ℕ) (r : Answer) → p ≡ movedCell a → q ≡ movedCell b
+    → Draws (lineDrawing k ink (unmovedCell p) (unmovedCell q)) s r t → Draws (lineDrawing k ink a b) s r t
+line-lifted k ink a b p q s t r e f h = by (inLimits a && inLimits b) refl
+  where
+    by : (u : Bool) → (inLimits a && inLimits b) ≡ u → Draws (lineDrawing k ink a b) s r t
+    by true g = let l = ends-lifted a b g p q e f in draws-as _ s _ r t (λ i. lineDrawing k ink (l .0 .stands i) (l .1 .stands i)) h
+    by false g =
+        let n = length s in
+        let u = outside k (unmovedCell p) (unmovedCell q) n ((λ i. inLimits (unmovedCell (e i)) && inLimits (unmovedCell (f i))) ∙ (λ i. lifted-limits a i && lifted-limits b i) ∙ g) in
+        let v = outside k a b n g in
+        let o = not-done k n in
+        record { tells = h .tells ∙ u ∙ sym v; leaves = h .leaves ∙ untouched _ _ _ s u o ∙ sym (untouched _ _ _ s v o) }

@@ -79,7 +79,7 @@ cond-le : (t : Bool) (m n k : ℕ) → m ≤ k → n ≤ k → cond t m n ≤ k
 cond-le true m n k p q = p
 cond-le false m n k p q = q
 
-longer-le : (w t k : ℕ) → w ≤ k → t ≤ k → longer w t ≤ k
+pub longer-le : (w t k : ℕ) → w ≤ k → t ≤ k → longer w t ≤ k
 longer-le w t k p q = cond-le (ltb w t) t w k q p
 
 -- a lesser spot has no greater y

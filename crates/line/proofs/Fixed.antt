@@ -76,6 +76,10 @@ pub tally-is : (l s n f t : ℕ) → f ≡ gradient l s → t ≡ gone l f n →
 unfolding tally
 tally-is l s n f t a b = b ∙ ap (λ (z : ℕ). gone l z n) a
 
+pub tally-start : (l s : ℕ) → l ≤ 32767 → 2147483648 + 2 * l ≡ tally l s 0 % 2 ^ 32
+unfolding tally
+tally-start l s h = omega arith
+
 -- a turn adds the gradient
 pub tally-next : (l s n : ℕ) → tally l s (n + 1) ≡ tally l s n + gradient l s
 unfolding tally

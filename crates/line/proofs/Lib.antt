@@ -24,6 +24,7 @@ pub mod Ranges
 pub mod Replies
 pub mod Rise
 pub mod Third
+pub mod Touching
 pub mod Walking
 pub mod Whole
 pub mod Within

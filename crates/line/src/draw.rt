@@ -3,20 +3,19 @@ ghost use mathlib.Core.Path.{_≡_};
 ghost use mathlib.Core.Logic.{_⊎_};
 ghost use mathlib.Core.Bool.{true, cond};
 ghost use Prim.Native.Nat.{_+_, _-_, _*_, _/_, _%_, _≤_, _<_};
-ghost use Rattle.sheet.specs.Sheet.{paint, cellsOn};
+ghost use Rattle.sheet.specs.Sheet.{inLimits, paint, cellsOn};
 ghost use Rattle.sheet.specs.Reply.{told};
 ghost use Rattle.sheet.specs.Drawing.{Draws};
-ghost use Rattle.sheet.specs.Inner.{Sheet, Disjoint};
+ghost use Rattle.sheet.specs.Inner.{Sheet, Disjoint, unmovedCell};
 ghost use Rattle.line.specs.Rule.{rise};
 ghost use Rattle.line.specs.Draw.{lineDrawing};
 ghost use Rattle.line.specs.Inner.Course.{spotAt, Runs, firstCells};
-ghost use Rattle.line.specs.Inner.Fixed.{gone};
+ghost use Rattle.line.specs.Inner.Fixed.{gradient, tally, gone};
 ghost use Rattle.line.specs.Inner.Span.{enters, leaves, FirstAt, Enters, Leaves, On, Spans, byteOf, aloneBy, bothBy};
 use crate::Course;
 use crate::chosen;
 use crate::course_of;
 use crate::gradient_of;
-use crate::in_limits;
 use crate::spot_of;
 use sheet::Cell;
 use sheet::Refusal;
@@ -193,16 +192,25 @@ fn hop(shape: Shape, course: Course, at: usize, across: bool) -> usize
     std::num::wrapping_add_usize(at, chosen_step(across, two, one))
 }
 
-// Inks the cells first, .., past - 1 of a line, which are those on the sheet.
-fn walk(sheet: &mut [u8], shape: Shape, ink: u8, course: Course, first: u32, past: u32)
+// Inks the cells first, .., past - 1 of a line, which are those on the sheet, by its gradient, from the part and the byte of the first.
+fn walk(
+    sheet: &mut [u8],
+    shape: Shape,
+    ink: u8,
+    course: Course,
+    first: u32,
+    past: u32,
+    f: u32,
+    start: u32,
+    place: usize,
+)
     requires { ⌜ Sheet shape (now sheet) × Runs course ⌝ }
-    requires { ⌜ (first < past) × Spans shape course first past ⌝ }
+    requires { ⌜ (first < past) × Spans shape course first past × (f ≡ gradient (course .long) (course .short))
+        × (start ≡ tally (course .long) (course .short) first % 4294967296) × (place ≡ byteOf shape (spotAt course first)) ⌝ }
     ensures { λ r. ⌜ now (sheet .exit) ≡ paint shape ink (firstCells course (course .long + 1)) (now (sheet .entry)) ⌝ }
 {
-    let f = gradient_of(course.long, course.short);
-    let t = tally_at(course.long, f, first);
-    let mut p = part(t);
-    let mut at = byte_at(shape, course, first, whole(t));
+    let mut p = start;
+    let mut at = place;
     let mut n = first;
     while n < past {
         sheet[at] = ink;
@@ -211,6 +219,18 @@ fn walk(sheet: &mut [u8], shape: Shape, ink: u8, course: Course, first: u32, pas
         at = hop(shape, course, at, next < p);
         p = next;
     }
+}
+
+// Inks the cells first, .., past - 1 of a line that leaves the sheet.
+fn part_line(sheet: &mut [u8], shape: Shape, ink: u8, course: Course, first: u32, past: u32)
+    requires { ⌜ Sheet shape (now sheet) × Runs course ⌝ }
+    requires { ⌜ (first < past) × Spans shape course first past ⌝ }
+    ensures { λ r. ⌜ now (sheet .exit) ≡ paint shape ink (firstCells course (course .long + 1)) (now (sheet .entry)) ⌝ }
+{
+    let f = gradient_of(course.long, course.short);
+    let t = tally_at(course.long, f, first);
+    let at = byte_at(shape, course, first, whole(t));
+    walk(sheet, shape, ink, course, first, past, f, part(t), at);
 }
 
 // Inks a line of one cell or two: they are its ends.
@@ -224,16 +244,29 @@ fn ends(sheet: &mut [u8], shape: Shape, ink: u8, course: Course)
     sheet::ink_at(sheet, shape, ink, last);
 }
 
-// Inks a line that is wholly on the sheet; a short one needs no gradient.
+// Inks a line that is wholly on the sheet; a short one needs no gradient. The first byte does not wait for the gradient.
 fn whole_line(sheet: &mut [u8], shape: Shape, ink: u8, course: Course)
     requires { ⌜ Sheet shape (now sheet) × Runs course × Spans shape course 0 (course .long + 1) ⌝ }
     ensures { λ r. ⌜ now (sheet .exit) ≡ paint shape ink (firstCells course (course .long + 1)) (now (sheet .entry)) ⌝ }
 {
-    if course.long < 2 {
+    let long = course.long;
+    if long < 2 {
         ends(sheet, shape, ink, course);
         return;
     }
-    walk(sheet, shape, ink, course, 0, course.long + 1);
+    let f = gradient_of(long, course.short);
+    let at = byte_at(shape, course, 0, 0);
+    walk(
+        sheet,
+        shape,
+        ink,
+        course,
+        0,
+        long + 1,
+        f,
+        2147483648 + 2 * long,
+        at,
+    );
 }
 
 // Inks the cells of a line that are on the sheet; how many they are.
@@ -251,21 +284,44 @@ fn run(sheet: &mut [u8], shape: Shape, ink: u8, course: Course) -> u32
     if past <= first {
         return 0;
     }
-    walk(sheet, shape, ink, course, first, past);
+    part_line(sheet, shape, ink, course, first, past);
     past - first
+}
+
+// Whether a spot stands for a cell within the limits.
+fn is_moved(spot: Spot) -> bool
+    ensures { λ r. ⌜ r ≡ inLimits (unmovedCell spot) ⌝ }
+{
+    let x = spot.x;
+    let y = spot.y;
+    ((49152 <= x) & (x <= 81919)) & ((49152 <= y) & (y <= 81919))
+}
+
+// Draws the line between the cells that two spots stand for.
+pub fn draw_between(sheet: &mut [u8], shape: Shape, ink: u8, from: Spot, to: Spot) -> Reply
+    ensures { λ r. ⌜ Draws (lineDrawing shape ink (unmovedCell from) (unmovedCell to))
+        (now (sheet .entry)) (told r) (now (sheet .exit)) ⌝ }
+{
+    let tested = sheet::check(shape, sheet.len());
+    if !tested.is_done() {
+        return tested;
+    }
+    if !(is_moved(from) & is_moved(to)) {
+        return Reply::Refused(Refusal::Coordinate);
+    }
+    let course = course_of(from, to);
+    Reply::Counted(run(sheet, shape, ink, course) as usize)
 }
 
 // Draws the line from one end to the other.
 pub fn draw_line(sheet: &mut [u8], shape: Shape, ink: u8, from: Cell, to: Cell) -> Reply
     ensures { λ r. ⌜ Draws (lineDrawing shape ink from to) (now (sheet .entry)) (told r) (now (sheet .exit)) ⌝ }
 {
-    let tested = sheet::check(shape, sheet.len());
-    if !tested.is_done() {
-        return tested;
-    }
-    if !in_limits(from, to) {
-        return Reply::Refused(Refusal::Coordinate);
-    }
-    let course = course_of(sheet::lift_cell(from), sheet::lift_cell(to));
-    Reply::Counted(run(sheet, shape, ink, course) as usize)
+    draw_between(
+        sheet,
+        shape,
+        ink,
+        sheet::lift_cell(from),
+        sheet::lift_cell(to),
+    )
 }

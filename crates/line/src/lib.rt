@@ -13,6 +13,7 @@ mod draw;
 mod listing;
 mod pen;
 
+pub use draw::draw_between;
 pub use draw::draw_line;
 pub use listing::list_line;
 pub use pen::Asked;

@@ -52,8 +52,8 @@ returns-2 c =
     let a = start .args in
     nothing (a .shape) (start .pre .0 .disjoint) (a .course) (start .pre .1) _ _ (range found) (c .if2 .taken) (a .ink) (now (a .sheet))
 
-walk-requires : tie.Need-walk-requires
-walk-requires c κs =
+part-line-requires : tie.Need-part-line-requires
+part-line-requires c κs =
     let found = c .before .before in
     (found .before .before .before .before .before .pre, (c .before .if2 .left, range found))
 
@@ -69,7 +69,7 @@ returns-3 c =
     let found = tested .before in
     let start = found .before .before .before .before .before in
     let a = start .args in
-    (counted (a .shape) (start .pre .0 .disjoint) (a .course) (start .pre .1) _ _ (range found) (tested .if2 .left), c .before .before .walk .ensures)
+    (counted (a .shape) (start .pre .0 .disjoint) (a .course) (start .pre .1) _ _ (range found) (tested .if2 .left), c .before .before .part-line .ensures)
 
 pub run-spec : {M : Type 1} → statement M
 run-spec =
@@ -83,7 +83,7 @@ run-spec =
     first-n-requires
     past-n-requires
     returns-2
-    walk-requires
+    part-line-requires
     sub-result
     same-length-2
     returns-3)
