@@ -1,71 +1,103 @@
--- A curve that is drawn, by the control points that the code lifts.
-use Prim.Native.Nat.{ℕ, _+_, _^_, _≤_}
-use mathlib.Core.Path.{_≡_, refl, sym, ap, _∙_}
-use mathlib.Core.List.{List, [], _∷_}
+-- The way along a curve whose control points are within the limits: its spots stand for the rule's points; and a curve that is drawn.
+use Prim.Native.Nat.{ℕ, _+_, _-_, _*_, _/_, _^_, _≤_, _<_}
+use mathlib.Core.Path.{_≡_, refl, sym, subst, ap, _∙_}
+use mathlib.Core.List.{List, [], _∷_, map}
 use mathlib.Core.Bool.{Bool, true, _&&_, and-true}
+use native.Mathlib.Nat.{mul-le-mul}
 use native.Mathlib.Omega.{arith}
-use lib.ListN.{length}
-use Rattle.laws.proofs.Below.{any-as}
-use Rattle.laws.proofs.Tests.{halves}
-use Rattle.sheet.specs.Sheet.{inLimits, cellOf, paint, split}
+use lib.IntN.{ℤ}
+use lib.ListN.{length, length-map}
+use Rattle.sheet.specs.Sheet.{coordinate, inLimits, split, paint}
 use Rattle.sheet.specs.Reply.{done}
 use Rattle.sheet.specs.Drawing.{Draws}
-use Rattle.sheet.specs.Inner.{movedCell, unmovedCell, fits}
+use Rattle.sheet.specs.Inner.{unmoved, unmovedCell, fits}
 use Rattle.sheet.specs.declared.Cell.{Cell}
 use Rattle.sheet.specs.declared.Shape.{Shape}
+use Rattle.sheet.specs.declared.Spot.{Spot}
 use Rattle.sheet.proofs.Draws.{draws}
 use Rattle.sheet.proofs.Lent.{if-sheet}
-use Rattle.sheet.proofs.Limits.{LiftedCell, lifted-cell}
-use Rattle.sheet.proofs.Paint.{paint-as}
-use Rattle.line.specs.Rule.{onLine}
-use Rattle.curve.specs.Rule.{pointAt, onCurve}
+use Rattle.sheet.proofs.Limits.{LiftedCell, limit-high, limits-x, limits-y, stands-parts}
+use Rattle.curve.specs.Rule.{coordinateAt, pointAt, onCurve}
 use Rattle.curve.specs.Draw.{allInLimits, curveAnswer, curveDrawing}
-use Rattle.curve.specs.Inner.{jointAt, controlsOf, Bends, firstPieces}
-use Rattle.curve.proofs.Points.{joint-is}
+use Rattle.curve.specs.Inner.{pointsOf, shiftOf, Follows, Leads, nextWay, Divides, spotOf}
+use Rattle.curve.specs.declared.Controls.{Controls}
+use Rattle.curve.specs.declared.Controls.the-variants.{Three, Four}
+use Rattle.curve.specs.declared.Walk.{Walk}
+use Rattle.curve.specs.declared.Way.{Way}
+use Rattle.curve.proofs.Between.{point-inside}
+use Rattle.curve.proofs.Walks.{follows-next, follows-stands}
 
--- three tests, each of which is one of the control points
+-- three tests, or four, each of which is one of the control points
 pub three-in : (a b c : Cell) → (inLimits a && (inLimits b && inLimits c)) ≡ allInLimits (a ∷ b ∷ c ∷ [])
 unfolding allInLimits
 three-in a b c = ap (λ (t : Bool). inLimits a && (inLimits b && t)) (sym (and-true (inLimits c)))
 
-module _ (a b c : Cell) (l : allInLimits (a ∷ b ∷ c ∷ []) ≡ true) where
-  all-three : (inLimits a ≡ true) × (inLimits b ≡ true) × (inLimits c ≡ true)
-  all-three =
-      let h = halves (inLimits a) (inLimits b && inLimits c) (three-in a b c ∙ l) in
-      let g = halves (inLimits b) (inLimits c) (h .1) in
-      (h .0, g .0, g .1)
+pub four-in : (a b c d : Cell) → (inLimits a && (inLimits b && (inLimits c && inLimits d))) ≡ allInLimits (a ∷ b ∷ c ∷ d ∷ [])
+unfolding allInLimits
+four-in a b c d = ap (λ (t : Bool). inLimits a && t) (three-in b c d)
 
-  lifted : (d : Cell) → inLimits d ≡ true → LiftedCell d (movedCell d)
-  lifted d e = lifted-cell d (movedCell d) e refl
-
-  pub bends : Bends (controlsOf a b c)
-  bends =
-      let e = all-three in
+-- the way of control points that were lifted
+module _ (s : ℕ) (x y : Walk) where
+  pub three-lead : (a b c : Cell) (p q r : Spot) → LiftedCell a p → LiftedCell b q → LiftedCell c r
+      → Follows (unmoved (p .x) ∷ unmoved (q .x) ∷ unmoved (r .x) ∷ []) s 0 x → Follows (unmoved (p .y) ∷ unmoved (q .y) ∷ unmoved (r .y) ∷ []) s 0 y
+      → Leads (a ∷ b ∷ c ∷ []) s 0 (record { x = x; y = y; shift = 2 * s + 1 })
+  three-lead a b c p q r e f g h k =
       record {
-        x0-in = lifted a (e .0) .inside-x;
-        x1-in = lifted b (e .1) .inside-x;
-        x2-in = lifted c (e .2) .inside-x;
-        y0-in = lifted a (e .0) .inside-y;
-        y1-in = lifted b (e .1) .inside-y;
-        y2-in = lifted c (e .2) .inside-y;
+        along-x = subst (λ (zs : List ℤ). Follows zs s 0 x) (λ t. e .stands t .x ∷ f .stands t .x ∷ g .stands t .x ∷ []) h;
+        along-y = subst (λ (zs : List ℤ). Follows zs s 0 y) (λ t. e .stands t .y ∷ f .stands t .y ∷ g .stands t .y ∷ []) k;
+        shift-is = refl;
       }
 
-  -- the points that the code finds are the rule's
-  point-is : (s i : ℕ) → i ≤ 2 ^ s → unmovedCell (jointAt (controlsOf a b c) s i) ≡ pointAt (a ∷ b ∷ c ∷ []) (2 ^ s) i
-  point-is s i m =
-      let e = all-three in
-      joint-is (controlsOf a b c) s i m
-      ∙ (λ t. pointAt (lifted a (e .0) .stands t ∷ lifted b (e .1) .stands t ∷ lifted c (e .2) .stands t ∷ []) (2 ^ s) i)
+  pub four-lead : (a b c d : Cell) (p q r t : Spot) → LiftedCell a p → LiftedCell b q → LiftedCell c r → LiftedCell d t
+      → Follows (unmoved (p .x) ∷ unmoved (q .x) ∷ unmoved (r .x) ∷ unmoved (t .x) ∷ []) s 0 x
+      → Follows (unmoved (p .y) ∷ unmoved (q .y) ∷ unmoved (r .y) ∷ unmoved (t .y) ∷ []) s 0 y
+      → Leads (a ∷ b ∷ c ∷ d ∷ []) s 0 (record { x = x; y = y; shift = 3 * s + 1 })
+  four-lead a b c d p q r t e f g m h k =
+      record {
+        along-x = subst (λ (zs : List ℤ). Follows zs s 0 x) (λ j. e .stands j .x ∷ f .stands j .x ∷ g .stands j .x ∷ m .stands j .x ∷ []) h;
+        along-y = subst (λ (zs : List ℤ). Follows zs s 0 y) (λ j. e .stands j .y ∷ f .stands j .y ∷ g .stands j .y ∷ m .stands j .y ∷ []) k;
+        shift-is = refl;
+      }
 
-  -- and so is the union of their lines
-  pieces-are : (s : ℕ) (d : Cell) → firstPieces (controlsOf a b c) s (2 ^ s) d ≡ onCurve (a ∷ b ∷ c ∷ []) s d
-  unfolding firstPieces onCurve
-  pieces-are s d = any-as (2 ^ s) _ _ (λ i m t. onLine (point-is s i (omega arith) t) (point-is s (i + 1) (omega arith) t) d)
+module _ (ps : List Cell) (some : 0 < length ps) (few : length ps ≤ 4) (s i : ℕ) (w : Way) (h : Leads ps s i w) (l : s ≤ 6) where
+  pub leads-next : Leads ps s (i + 1) (nextWay w)
+  leads-next = record { along-x = follows-next _ s i (w .x) (h .along-x); along-y = follows-next _ s i (w .y) (h .along-y); shift-is = h .shift-is }
+
+  -- each coordinate
+  stands : (of : Cell → ℤ) (v : Walk) → Follows (map of ps) s i v → i ≤ 2 ^ s → unmoved (v .value / 2 ^ w .shift) ≡ coordinateAt (map of ps) (2 ^ s) i
+  stands of v f m =
+      let e : w .shift ≡ shiftOf (length (map of ps)) s = h .shift-is ∙ ap (λ (k : ℕ). shiftOf k s) (sym (length-map ps of)) in
+      ap (λ (k : ℕ). unmoved (v .value / 2 ^ k)) e ∙ follows-stands (map of ps) s i v f l m
+
+  pub spot-stands : i ≤ 2 ^ s → unmovedCell (spotOf w) ≡ pointAt ps (2 ^ s) i
+  unfolding pointAt
+  spot-stands m = λ t. record { x = stands (λ c. c .x) (w .x) (h .along-x) m t; y = stands (λ c. c .y) (w .y) (h .along-y) m t }
+
+  -- within the limits, where the control points are; so the division fits its type
+  spot-in : i ≤ 2 ^ s → allInLimits ps ≡ true → inLimits (unmovedCell (spotOf w)) ≡ true
+  spot-in m e = ap inLimits (spot-stands m) ∙ point-inside ps s i some m e
+
+  divides : (v : Walk) → coordinate (unmoved (v .value / 2 ^ w .shift)) ≡ true → Divides v (w .shift)
+  divides v e =
+      record {
+        whole = omega (arith, h .shift-is, mul-le-mul {n₁ = length ps - 1} {m₁ = s} {n₂ = 3} {m₂ = 6} (omega arith) l);
+        fits = omega (arith, stands-parts (v .value / 2 ^ w .shift) _ refl, limit-high _ e);
+      }
+
+  pub way-divides : i ≤ 2 ^ s → allInLimits ps ≡ true → Divides (w .x) (w .shift) × Divides (w .y) (w .shift)
+  way-divides m e = (divides (w .x) (limits-x _ (spot-in m e)), divides (w .y) (limits-y _ (spot-in m e)))
+
+-- three control points or four
+pub points-some : (c : Controls) → 0 < length (pointsOf c)
+points-some (Three a b c) = omega arith
+points-some (Four a b c d) = omega arith
+
+pub points-few : (c : Controls) → length (pointsOf c) ≤ 4
+points-few (Three a b c) = omega arith
+points-few (Four a b c d) = omega arith
 
 -- a curve within the limits, drawn on a sheet that fits
-pub curve-done : (k : Shape) (ink : ℕ) (a b c : Cell) (s : ℕ) (sheet t : List ℕ) → fits k (length sheet) ≡ true → allInLimits (a ∷ b ∷ c ∷ []) ≡ true
-    → split s ≡ true → t ≡ paint k ink (firstPieces (controlsOf a b c) s (2 ^ s)) sheet
-    → Draws (curveDrawing k ink (a ∷ b ∷ c ∷ []) s) sheet (done []) t
+pub curve-done : (k : Shape) (ink : ℕ) (ps : List Cell) (s : ℕ) (sheet t : List ℕ) → fits k (length sheet) ≡ true → allInLimits ps ≡ true
+    → split s ≡ true → t ≡ paint k ink (onCurve ps s) sheet → Draws (curveDrawing k ink ps s) sheet (done []) t
 unfolding curveAnswer
-curve-done k ink a b c s sheet t e f g u =
-    draws _ sheet [] t (simp (if-sheet k (length sheet) e, f, g)) (u ∙ paint-as k ink _ _ sheet (λ x y v w. pieces-are a b c f s (cellOf x y)))
+curve-done k ink ps s sheet t e f g u = draws _ sheet [] t (simp (if-sheet k (length sheet) e, f, g)) u

@@ -11,17 +11,13 @@ use lib.Pow.{pow-pos}
 use Rattle.laws.proofs.Ints.{one-zero, from-≤ℤ, to-≤ℤ}
 use Rattle.laws.proofs.Tests.{halves}
 use Rattle.sheet.specs.Sheet.{coordinate, inLimits}
-use Rattle.sheet.specs.Inner.{unmovedCell}
 use Rattle.sheet.specs.declared.Cell.{Cell}
-use Rattle.sheet.specs.declared.Spot.{Spot}
-use Rattle.sheet.proofs.Limits.{limit-low, limit-high, limit-in, limits-x, limits-y, moved-in}
+use Rattle.sheet.proofs.Limits.{limit-low, limit-high, limit-in, limits-x, limits-y}
 use Rattle.curve.specs.Rule.{blend, rounded, degree, coordinateAt, pointAt}
 use Rattle.curve.specs.Draw.{allInLimits}
-use Rattle.curve.specs.Inner.{jointAt, Bends}
-use Rattle.curve.specs.declared.Controls.{Controls}
 use Rattle.curve.proofs.Blend.{blend-one, blend-grows}
 use Rattle.curve.proofs.Round.{rounded-whole, rounded-grows}
-use Rattle.curve.proofs.Points.{pow-above, cellsOf, joint-is}
+use Rattle.curve.proofs.Points.{pow-above, map-at}
 
 -- no value of a list is below low or above high: the closest such numbers are its least and its greatest value
 abbrev pub Between : ℤ → ℤ → List ℤ → Type 0
@@ -58,28 +54,23 @@ module _ (ps : List ℤ) (n i : ℕ) (l : 0 < length ps) (above : 0 < n) (m : i 
       limits z e =
           (to-≤ℤ (negsuc 16383) z (omega (arith, limit-low z e, one-zero z)), to-≤ℤ z (pos 16383) (omega (arith, limit-high z e, one-zero z)))
 
--- one coordinate of each control point, where all are within the limits
-each-in : (of : Cell → ℤ) → ((c : Cell) → inLimits c ≡ true → coordinate (of c) ≡ true)
-    → (ps : List Cell) (j : ℕ) → allInLimits ps ≡ true → j < length ps → coordinate (getD (map of ps) j (pos 0)) ≡ true
+-- each control point, where all are within the limits
+pub each-in : (ps : List Cell) (d : Cell) → allInLimits ps ≡ true → (j : ℕ) → j < length ps → inLimits (getD ps j d) ≡ true
 unfolding allInLimits
-each-in of f [] j e h = absurd (omega arith)
-each-in of f (c ∷ ps) zero e h = f c (halves (inLimits c) (allInLimits ps) e .0)
-each-in of f (c ∷ ps) (suc j) e h = each-in of f ps j (halves (inLimits c) (allInLimits ps) e .1) (omega arith)
+each-in [] d e j h = absurd (omega arith)
+each-in (c ∷ ps) d e zero h = halves (inLimits c) (allInLimits ps) e .0
+each-in (c ∷ ps) d e (suc j) h = each-in ps d (halves (inLimits c) (allInLimits ps) e .1) j (omega arith)
 
 -- a curve with its control points within the limits has all its points within them
 pub point-in-limits : (ps : List Cell) (n i : ℕ) → 0 < length ps → 0 < n → i ≤ n → allInLimits ps ≡ true → inLimits (pointAt ps n i) ≡ true
 unfolding inLimits pointAt
 point-in-limits ps n i l above m e = λ t. by (λ c. c .x) limits-x t && by (λ c. c .y) limits-y t
   where
-    by : (of : Cell → ℤ) → ((c : Cell) → inLimits c ≡ true → coordinate (of c) ≡ true) → coordinate (coordinateAt (map of ps) n i) ≡ true
-    by of f = coordinate-in (map of ps) n i (omega (arith, length-map ps of)) above m (λ j h. each-in of f ps j e (omega (arith, length-map ps of)))
+    each : (of : Cell → ℤ) → ((c : Cell) → inLimits c ≡ true → coordinate (of c) ≡ true) → (j : ℕ) → j < length ps → coordinate (getD (map of ps) j (pos 0)) ≡ true
+    each of f j h = let c = pointAt ps n i in ap coordinate (map-at of ps c j h) ∙ f (getD ps j c) (each-in ps c e j h)
 
--- and so have the points as the code finds them, of control points within the limits
-pub joint-in : (c : Controls) (s i : ℕ) (p : Spot) → Bends c → i ≤ 2 ^ s → p ≡ jointAt c s i → inLimits (unmovedCell p) ≡ true
-unfolding allInLimits inLimits
-joint-in c s i p h m e =
-    ap (λ (p : Spot). inLimits (unmovedCell p)) e
-    ∙ ap inLimits (joint-is c s i m)
-    ∙ point-in-limits (cellsOf c) (2 ^ s) i (omega arith) (pow-pos s) m
-    (simp
-    (moved-in (c .x0) (h .x0-in), moved-in (c .y0) (h .y0-in), moved-in (c .x1) (h .x1-in), moved-in (c .y1) (h .y1-in), moved-in (c .x2) (h .x2-in), moved-in (c .y2) (h .y2-in)))
+    by : (of : Cell → ℤ) → ((c : Cell) → inLimits c ≡ true → coordinate (of c) ≡ true) → coordinate (coordinateAt (map of ps) n i) ≡ true
+    by of f = coordinate-in (map of ps) n i (omega (arith, length-map ps of)) above m (λ j h. each of f j (omega (arith, length-map ps of)))
+
+pub point-inside : (ps : List Cell) (s i : ℕ) → 0 < length ps → i ≤ 2 ^ s → allInLimits ps ≡ true → inLimits (pointAt ps (2 ^ s) i) ≡ true
+point-inside ps s i l m e = point-in-limits ps (2 ^ s) i l (pow-pos s) m e

@@ -48,13 +48,28 @@ pub blend-moved : (d n i : ℕ) (P : ℕ → ℤ) (Q : ℕ → ℕ) (c : ℕ) �
     → up (blend d n i P) + c * n ^ d ≡ dn (blend d n i P) + blendℕ d n i Q
 blend-moved d n i P Q c l h = omega (arith, blend-less d n i P Q c h, blend-same d n i c l)
 
--- the document's formula, for three values
-pub blend-three : (n i : ℕ) (Q : ℕ → ℕ) → blendℕ 2 n i Q ≡ (n - i) * (n - i) * Q 0 + 2 * (i * (n - i)) * Q 1 + i * i * Q 2
+-- the document's formulas, for three values and for four
+abbrev pub weighThree : ℕ → ℕ → ℕ → ℕ → ℕ → ℕ
+weighThree k i p q r = k * k * p + 2 * (i * k) * q + i * i * r
+
+abbrev pub weighFour : ℕ → ℕ → ℕ → ℕ → ℕ → ℕ → ℕ
+weighFour k i p q r t = k * k * k * p + 3 * (i * (k * k)) * q + 3 * (i * i * k) * r + i * i * i * t
+
+pub weigh-more : (k i p q r t : ℕ) → k * weighThree k i p q r + i * weighThree k i q r t ≡ weighFour k i p q r t
+weigh-more k i p q r t = omega arith
+
+pub blend-three : (n i : ℕ) (Q : ℕ → ℕ) → blendℕ 2 n i Q ≡ weighThree (n - i) i (Q 0) (Q 1) (Q 2)
 unfolding blendℕ
 blend-three n i Q = formula (n - i) i (Q 0) (Q 1) (Q 2)
   where
-    formula : (k i p q r : ℕ) → k * (k * p + i * q) + i * (k * q + i * r) ≡ k * k * p + 2 * (i * k) * q + i * i * r
+    formula : (k i p q r : ℕ) → k * (k * p + i * q) + i * (k * q + i * r) ≡ weighThree k i p q r
     formula k i p q r = omega arith
+
+pub blend-four : (n i : ℕ) (Q : ℕ → ℕ) → blendℕ 3 n i Q ≡ weighFour (n - i) i (Q 0) (Q 1) (Q 2) (Q 3)
+unfolding blendℕ
+blend-four n i Q =
+    ap₂ (λ (a b : ℕ). (n - i) * a + i * b) (blend-three n i Q) (blend-three n i (λ (j : ℕ). Q (suc j)))
+    ∙ weigh-more (n - i) i (Q 0) (Q 1) (Q 2) (Q 3)
 
 -- a whole multiple, by its parts
 up-of : (m : ℕ) (z : ℤ) → up (pos m *ℤ z) ≡ m * up z

@@ -2,7 +2,7 @@
 use Prim.Native.Nat.{ℕ, _+_, _^_, _≤_, _<_}
 use mathlib.Core.Path.{_≡_, refl, sym, ap, _∙_}
 use mathlib.Core.List.{List}
-use mathlib.Core.Bool.{false, _||_}
+use mathlib.Core.Bool.{Bool, true, false, _||_}
 use native.Mathlib.Omega.{arith}
 use lib.ListN.{length}
 use Rattle.laws.specs.Below.{any}
@@ -15,46 +15,74 @@ use Rattle.sheet.specs.declared.Spot.{Spot}
 use Rattle.sheet.proofs.Limits.{still-sheet}
 use Rattle.sheet.proofs.Paint.{paint-as, paint-none, paint-then, paint-length}
 use Rattle.line.specs.Rule.{onLine}
-use Rattle.curve.specs.Inner.{jointAt, firstPieces}
-use Rattle.curve.specs.declared.Controls.{Controls}
+use Rattle.curve.specs.Rule.{pointAt, onCurve}
+use Rattle.curve.specs.Draw.{allInLimits}
+use Rattle.curve.specs.Inner.{Leads}
+use Rattle.curve.specs.declared.Way.{Way}
 
-pub record Joining (k : Shape) (ink : ℕ) (c : Controls) (s : ℕ) (sheet₀ sheet : List ℕ) (from : Spot) (i : ℕ) : Type 0 where
+-- the first i pieces of a curve
+pub firstPieces : List Cell → ℕ → ℕ → Cell → Bool
+firstPieces ps s i d = any i (λ (j : ℕ). onLine (pointAt ps (2 ^ s) j) (pointAt ps (2 ^ s) (j + 1)) d)
+
+-- a way at the first point of a curve that can be drawn
+pub record Begun (ps : List Cell) (s : ℕ) (way : Way) : Type 0 where
+  pub some : 0 < length ps
+  pub few : length ps ≤ 4
+  pub inside : allInLimits ps ≡ true
+  pub split : s ≤ 6
+  pub leads : Leads ps s 0 way
+
+pub record Joining (k : Shape) (ink : ℕ) (ps : List Cell) (s : ℕ) (sheet₀ sheet : List ℕ) (way : Way) (from : Spot) (i : ℕ) : Type 0 where
   pub low : i ≤ 2 ^ s
-  pub from-is : from ≡ jointAt c s i
-  pub inked : sheet ≡ paint k ink (firstPieces c s i) sheet₀
+  pub leads : Leads ps s i way
+  pub from-is : unmovedCell from ≡ pointAt ps (2 ^ s) i
+  pub inked : sheet ≡ paint k ink (firstPieces ps s i) sheet₀
   pub sized : Sheet k sheet
 
-module _ (k : Shape) (ink : ℕ) (c : Controls) (s : ℕ) where
-  no-pieces : (d : Cell) → firstPieces c s 0 d ≡ false
+module _ (k : Shape) (ink : ℕ) (ps : List Cell) (s : ℕ) where
+  no-pieces : (d : Cell) → firstPieces ps s 0 d ≡ false
   unfolding firstPieces any
   no-pieces d = refl
 
-  more-pieces : (i : ℕ) (d : Cell) → firstPieces c s (i + 1) d ≡ (firstPieces c s i d || onLine (unmovedCell (jointAt c s i)) (unmovedCell (jointAt c s (i + 1))) d)
+  more-pieces : (i : ℕ) (d : Cell) → firstPieces ps s (i + 1) d ≡ (firstPieces ps s i d || onLine (pointAt ps (2 ^ s) i) (pointAt ps (2 ^ s) (i + 1)) d)
   unfolding firstPieces
-  more-pieces i d = any-more i (λ (i : ℕ). onLine (unmovedCell (jointAt c s i)) (unmovedCell (jointAt c s (i + 1))) d)
+  more-pieces i d = any-more i (λ (j : ℕ). onLine (pointAt ps (2 ^ s) j) (pointAt ps (2 ^ s) (j + 1)) d)
 
-  pub begins : (sheet : List ℕ) (from : Spot) → Sheet k sheet → from ≡ jointAt c s 0 → Joining k ink c s sheet sheet from 0
-  begins sheet from z e =
+  all-pieces : (d : Cell) → firstPieces ps s (2 ^ s) d ≡ onCurve ps s d
+  unfolding firstPieces onCurve
+  all-pieces d = refl
+
+  pub begins : (sheet : List ℕ) (way : Way) (from : Spot) → Sheet k sheet → Leads ps s 0 way → unmovedCell from ≡ pointAt ps (2 ^ s) 0
+      → Joining k ink ps s sheet sheet way from 0
+  begins sheet way from z l e =
       record {
         low = omega arith;
+        leads = l;
         from-is = e;
-        inked = sym (paint-none k ink (firstPieces c s 0) sheet (λ x y a b. no-pieces (cellOf x y)));
+        inked = sym (paint-none k ink (firstPieces ps s 0) sheet (λ x y a b. no-pieces (cellOf x y)));
         sized = z;
       }
 
-  pub turn : (sheet₀ sheet t : List ℕ) (from to : Spot) (i : ℕ) → Joining k ink c s sheet₀ sheet from i → i < 2 ^ s → to ≡ jointAt c s (i + 1)
-      → t ≡ paint k ink (onLine (unmovedCell from) (unmovedCell to)) sheet → Joining k ink c s sheet₀ t to (i + 1)
-  turn sheet₀ sheet t from to i g l e f =
+  pub turn : (sheet₀ sheet t : List ℕ) (way further : Way) (from to : Spot) (i : ℕ) → Joining k ink ps s sheet₀ sheet way from i → i + 1 ≤ 2 ^ s
+      → Leads ps s (i + 1) further → unmovedCell to ≡ pointAt ps (2 ^ s) (i + 1)
+      → t ≡ paint k ink (onLine (unmovedCell from) (unmovedCell to)) sheet → Joining k ink ps s sheet₀ t further to (i + 1)
+  turn sheet₀ sheet t way further from to i g l h e f =
       record {
-        low = omega arith;
+        low = l;
+        leads = h;
         from-is = e;
         inked =
             f
-            ∙ (λ j. paint k ink (onLine (unmovedCell (g .from-is j)) (unmovedCell (e j))) (g .inked j))
-            ∙ paint-then k ink (firstPieces c s i) (onLine (unmovedCell (jointAt c s i)) (unmovedCell (jointAt c s (i + 1)))) sheet₀
+            ∙ (λ j. paint k ink (onLine (g .from-is j) (e j)) (g .inked j))
+            ∙ paint-then k ink (firstPieces ps s i) (onLine (pointAt ps (2 ^ s) i) (pointAt ps (2 ^ s) (i + 1))) sheet₀
             ∙ sym (paint-as k ink _ _ sheet₀ (λ x y a b. more-pieces i (cellOf x y)));
         sized = still-sheet k sheet t (ap length f ∙ paint-length k ink (onLine (unmovedCell from) (unmovedCell to)) sheet) (g .sized);
       }
 
-  pub ends : (sheet₀ sheet : List ℕ) (from : Spot) (i : ℕ) → Joining k ink c s sheet₀ sheet from i → 2 ^ s ≤ i → sheet ≡ paint k ink (firstPieces c s (2 ^ s)) sheet₀
-  ends sheet₀ sheet from i g l = let e : i ≡ 2 ^ s = omega (arith, g .low) in g .inked ∙ ap (λ (j : ℕ). paint k ink (firstPieces c s j) sheet₀) e
+  pub ends : (sheet₀ sheet : List ℕ) (way : Way) (from : Spot) (i : ℕ) → Joining k ink ps s sheet₀ sheet way from i → 2 ^ s ≤ i
+      → sheet ≡ paint k ink (onCurve ps s) sheet₀
+  ends sheet₀ sheet way from i g l =
+      let e : i ≡ 2 ^ s = omega (arith, g .low) in
+      g .inked
+      ∙ ap (λ (j : ℕ). paint k ink (firstPieces ps s j) sheet₀) e
+      ∙ paint-as k ink _ _ sheet₀ (λ x y a b. all-pieces (cellOf x y))

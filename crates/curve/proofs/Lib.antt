@@ -7,3 +7,5 @@ pub mod Joining
 pub mod Points
 pub mod Reversed
 pub mod Round
+pub mod Sums
+pub mod Walks

@@ -2,21 +2,18 @@
 use Prim.Native.Nat.{ℕ, zero, suc, _+_, _-_, _*_, _/_, _^_, _≤_, _<_}
 use mathlib.Core.Path.{_≡_, refl, sym, ap, _∙_}
 use mathlib.Core.Logic.{_⊎_, inl, inr}
-use mathlib.Core.List.{List, [], _∷_, reverse, reverseAux}
+use mathlib.Core.List.{List, [], _∷_, map, reverse, reverseAux}
 use native.Mathlib.Nat.{pow-zero, pow-succ', mul-le-mul}
 use native.Mathlib.Omega.{arith}
-use lib.ListN.{length, getD, length-reverse}
+use lib.ListN.{length, getD, length-map, length-reverse}
 use lib.IntN.{ℤ, pos}
-use lib.Pow.{pow-pos}
 use Rattle.laws.proofs.Parts.{up, dn}
 use Rattle.laws.proofs.Products.{lt-or-ge}
-use Rattle.sheet.specs.Inner.{unmoved, unmovedCell}
+use Rattle.sheet.specs.Inner.{unmoved}
 use Rattle.sheet.proofs.Limits.{stands-parts}
 use Rattle.sheet.specs.declared.Cell.{Cell}
 use Rattle.curve.specs.Rule.{blend, rounded, degree, coordinateAt, pointAt}
-use Rattle.curve.specs.Inner.{jointOf, jointAt}
-use Rattle.curve.specs.declared.Controls.{Controls}
-use Rattle.curve.proofs.Blend.{blendℕ, blend-moved, blend-three, blend-first, blend-last, blend-as, blend-back}
+use Rattle.curve.proofs.Blend.{blendℕ, blend-moved, blend-first, blend-last, blend-as, blend-back}
 use Rattle.curve.proofs.Round.{rounded-is, rounded-whole}
 
 -- a power of a positive number is positive
@@ -28,7 +25,7 @@ pow-above n (suc d) l = omega (arith, pow-succ' n d, mul-pos n (n ^ d) l (pow-ab
     mul-pos a b p q = mul-le-mul {n₁ = 1} {m₁ = 1} {n₂ = a} {m₂ = b} p q
 
 module _ (ps : List ℤ) (n : ℕ) (l : 0 < n) where
-  -- The first and last points are P0 and P2 exactly.
+  -- The first and last points are the first and last control points exactly.
   pub coordinate-first : coordinateAt ps n 0 ≡ getD ps 0 (pos 0)
   unfolding coordinateAt
   coordinate-first =
@@ -70,57 +67,65 @@ coordinate-reversed ps n i l m =
     ∙ blend-back d n i (λ (j : ℕ). getD ps j (pos 0)) m in
     (λ t. rounded (blend (e t) n (n - i) (λ (j : ℕ). getD (reverse ps) j (pos 0))) (n ^ e t)) ∙ ap (λ (z : ℤ). rounded z (n ^ d)) b
 
--- one coordinate of three moved control values
-square : (n : ℕ) → n ^ 2 ≡ n * n
-square n = pow-succ' n 1 ∙ ap (λ (t : ℕ). n * t) (pow-succ' n 0 ∙ ap (λ (t : ℕ). n * t) (pow-zero n)) ∙ omega arith
+-- one coordinate of moved control values: what is divided, and the half with it
+abbrev pub twiceAt : List ℕ → ℕ → ℕ → ℕ
+twiceAt qs n i = 2 * blendℕ (length qs - 1) n i (λ (j : ℕ). getD qs j 0) + n ^ (length qs - 1)
 
-coordinate-moved : (n i p q r : ℕ) → 0 < n → i ≤ n → coordinateAt (unmoved p ∷ unmoved q ∷ unmoved r ∷ []) n i ≡ unmoved (jointOf p q r n i)
+pub coordinate-moved : (qs : List ℕ) (n i : ℕ) → 0 < length qs → 0 < n → i ≤ n
+    → coordinateAt (map unmoved qs) n i ≡ unmoved (twiceAt qs n i / (2 * n ^ (length qs - 1)))
 unfolding coordinateAt
-coordinate-moved n i p q r l m =
-    let b = blend-moved 2 n i values places 65536 m each in
-    let f = blend-three n i places in
-    let e = square n in
-    rounded-is (blend 2 n i values) (n ^ 2) 65536 (blendℕ 2 n i places) (pow-above n 2 l) b ∙ (λ t. unmoved ((2 * f t + e t) / (2 * e t)))
+coordinate-moved qs n i l above m =
+    let d = length qs - 1 in
+    let e : degree (map unmoved qs) ≡ d = ap (λ (k : ℕ). k - 1) (length-map qs unmoved) in
+    let b = blend-moved d n i values places 65536 m (λ j h. each qs j (omega arith)) in
+    (λ t. rounded (blend (e t) n i values) (n ^ e t))
+    ∙ rounded-is (blend d n i values) (n ^ d) 65536 (blendℕ d n i places) (pow-above n d above) b
   where
     values : ℕ → ℤ
-    values j = getD (unmoved p ∷ unmoved q ∷ unmoved r ∷ []) j (pos 0)
+    values j = getD (map unmoved qs) j (pos 0)
 
     places : ℕ → ℕ
-    places j = getD (p ∷ q ∷ r ∷ []) j 0
+    places j = getD qs j 0
 
-    each : (j : ℕ) → j ≤ 2 → up (values j) + 65536 ≡ dn (values j) + places j
-    each zero h = stands-parts p (unmoved p) refl
-    each (suc zero) h = stands-parts q (unmoved q) refl
-    each (suc (suc zero)) h = stands-parts r (unmoved r) refl
-    each (suc (suc (suc j))) h = absurd (omega arith)
+    each : (qs : List ℕ) (j : ℕ) → j < length qs → up (getD (map unmoved qs) j (pos 0)) + 65536 ≡ dn (getD (map unmoved qs) j (pos 0)) + getD qs j 0
+    each [] j h = absurd (omega arith)
+    each (q ∷ qs) zero h = stands-parts q (unmoved q) refl
+    each (q ∷ qs) (suc j) h = each qs j (omega arith)
 
--- the cells that moved control points stand for, and each point as the code finds it
-abbrev pub cellsOf : Controls → List Cell
-cellsOf c =
-    unmovedCell (record { x = c .x0; y = c .y0 }) ∷ unmovedCell (record { x = c .x1; y = c .y1 }) ∷ unmovedCell (record { x = c .x2; y = c .y2 }) ∷ []
+-- the same of points, of one control point or more: the first and the last
+pub map-at : (of : Cell → ℤ) (ps : List Cell) (c : Cell) (j : ℕ) → j < length ps → getD (map of ps) j (pos 0) ≡ of (getD ps j c)
+map-at of [] c j h = absurd (omega arith)
+map-at of (p ∷ ps) c zero h = refl
+map-at of (p ∷ ps) c (suc j) h = map-at of ps c j (omega arith)
 
-pub joint-is : (c : Controls) (s i : ℕ) → i ≤ 2 ^ s → unmovedCell (jointAt c s i) ≡ pointAt (cellsOf c) (2 ^ s) i
-unfolding jointAt pointAt
-joint-is c s i m =
-    let x = coordinate-moved (2 ^ s) i (c .x0) (c .x1) (c .x2) (pow-pos s) m in
-    let y = coordinate-moved (2 ^ s) i (c .y0) (c .y1) (c .y2) (pow-pos s) m in
-    λ t. record { x = sym x t; y = sym y t }
-
--- the same of points: the first and the last, and those of the control points reversed
-module _ (a b c : Cell) (n : ℕ) (l : 0 < n) where
-  pub point-first : pointAt (a ∷ b ∷ c ∷ []) n 0 ≡ a
+module _ (ps : List Cell) (n : ℕ) (some : 0 < length ps) (l : 0 < n) (c : Cell) where
+  pub point-first : pointAt ps n 0 ≡ getD ps 0 c
   unfolding pointAt
-  point-first = λ t. record { x = coordinate-first (a .x ∷ b .x ∷ c .x ∷ []) n l t; y = coordinate-first (a .y ∷ b .y ∷ c .y ∷ []) n l t }
+  point-first = λ t. record { x = by (λ c. c .x) t; y = by (λ c. c .y) t }
+    where
+      by : (of : Cell → ℤ) → coordinateAt (map of ps) n 0 ≡ of (getD ps 0 c)
+      by of = coordinate-first (map of ps) n l ∙ map-at of ps c 0 some
 
-  pub point-last : pointAt (a ∷ b ∷ c ∷ []) n n ≡ c
+  pub point-last : pointAt ps n n ≡ getD ps (length ps - 1) c
   unfolding pointAt
-  point-last = λ t. record { x = coordinate-last (a .x ∷ b .x ∷ c .x ∷ []) n l t; y = coordinate-last (a .y ∷ b .y ∷ c .y ∷ []) n l t }
+  point-last = λ t. record { x = by (λ c. c .x) t; y = by (λ c. c .y) t }
+    where
+      by : (of : Cell → ℤ) → coordinateAt (map of ps) n n ≡ of (getD ps (length ps - 1) c)
+      by of =
+          coordinate-last (map of ps) n l
+          ∙ ap (λ (k : ℕ). getD (map of ps) (k - 1) (pos 0)) (length-map ps of)
+          ∙ map-at of ps c (length ps - 1) (omega arith)
 
-  pub point-reversed : (i : ℕ) → i ≤ n → pointAt (c ∷ b ∷ a ∷ []) n (n - i) ≡ pointAt (a ∷ b ∷ c ∷ []) n i
-  unfolding pointAt
-  point-reversed i m =
-      λ t.
-      record {
-        x = coordinate-reversed (a .x ∷ b .x ∷ c .x ∷ []) n i (omega arith) m t;
-        y = coordinate-reversed (a .y ∷ b .y ∷ c .y ∷ []) n i (omega arith) m t;
-      }
+-- and those of the control points reversed
+map-back : (of : Cell → ℤ) (l r : List Cell) → map of (reverseAux l r) ≡ reverseAux (map of l) (map of r)
+map-back of [] r = refl
+map-back of (c ∷ l) r = map-back of l (c ∷ r)
+
+pub point-reversed : (ps : List Cell) (n i : ℕ) → 0 < length ps → i ≤ n → pointAt (reverse ps) n (n - i) ≡ pointAt ps n i
+unfolding pointAt
+point-reversed ps n i l m = λ t. record { x = by (λ c. c .x) t; y = by (λ c. c .y) t }
+  where
+    by : (of : Cell → ℤ) → coordinateAt (map of (reverse ps)) n (n - i) ≡ coordinateAt (map of ps) n i
+    by of =
+        ap (λ (zs : List ℤ). coordinateAt zs n (n - i)) (map-back of ps [])
+        ∙ coordinate-reversed (map of ps) n i (omega (arith, length-map ps of)) m

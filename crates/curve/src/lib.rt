@@ -1,29 +1,56 @@
-// Quadratic Bézier curves: the points of each, and the lines that join them.
+// Bézier curves of three or four control points: the points of each by their differences, and the lines that join them.
 ghost use mathlib.Core.Path.{_≡_};
-ghost use mathlib.Core.Bool.{true};
+ghost use mathlib.Core.Bool.{true, _&&_};
+ghost use lib.Dec.{leb};
 ghost use mathlib.Core.List.{[], _∷_};
-ghost use Prim.Native.Nat.{_^_, _≤_};
+ghost use Prim.Native.Nat.{_+_, _/_, _^_, _≤_, _<_};
 ghost use Rattle.sheet.specs.Sheet.{inLimits, paint};
 ghost use Rattle.sheet.specs.Reply.{told};
 ghost use Rattle.sheet.specs.Drawing.{Draws};
-ghost use Rattle.sheet.specs.Inner.{Moved, Sheet, unmovedCell};
+ghost use Rattle.sheet.specs.Inner.{Moved, Sheet, unmoved, unmovedCell};
 ghost use Rattle.line.specs.Rule.{onLine};
+ghost use Rattle.curve.specs.Rule.{onCurve};
 ghost use Rattle.curve.specs.Draw.{allInLimits, curveDrawing};
-ghost use Rattle.curve.specs.Inner.{jointOf, jointAt, Bends, controlsOf, firstPieces};
+ghost use Rattle.curve.specs.Inner.{pointsOf, changesAt, Little, Small, Walks, nextWalk, Follows, nextWay, Leads, Divides, spotOf};
 use sheet::Cell;
 use sheet::Refusal;
 use sheet::Reply;
 use sheet::Shape;
 use sheet::Spot;
 
-// The three control points on the moved plane.
-struct Controls {
-    x0: u32,
-    y0: u32,
-    x1: u32,
-    y1: u32,
-    x2: u32,
-    y2: u32,
+// The control points of a curve.
+enum Controls {
+    Three(Cell, Cell, Cell),
+    Four(Cell, Cell, Cell, Cell),
+}
+
+// A sum of so many times i, i² and i³.
+struct Powers {
+    one: u64,
+    two: u64,
+    three: u64,
+}
+
+// One moved coordinate along a curve, not yet divided: what it is at 0, and what it has gained and lost at i.
+struct Terms {
+    start: u64,
+    gains: Powers,
+    losses: Powers,
+}
+
+// The same at some i, and its differences there, modulo 2^64.
+struct Walk {
+    value: u64,
+    first: u64,
+    second: u64,
+    third: u64,
+}
+
+// Both coordinates, and the shift that divides them.
+struct Way {
+    x: Walk,
+    y: Walk,
+    shift: u32,
 }
 
 // How many pieces a curve is split into.
@@ -34,84 +61,248 @@ fn pieces(s: u32) -> u32
     1 << s
 }
 
-// One moved coordinate of the ith point of 2^s.
-fn joint(p: u32, q: u32, r: u32, s: u32, i: u32) -> u32
-    requires { ⌜ Moved p × Moved q × Moved r × (s ≤ 6) × (i ≤ 2 ^ s) ⌝ }
-    ensures { λ t. ⌜ t ≡ jointOf p q r (2 ^ s) i ⌝ }
+// How much a sum grows from 0 to 1, how much that growth does, and how much that one's.
+fn changes(sum: Powers) -> Powers
+    requires { ⌜ Little sum ⌝ }
+    ensures { λ r. ⌜ r ≡ changesAt sum 0 ⌝ }
 {
-    let n = pieces(s);
-    let k = n - i;
-    let sum = k * k * p + 2 * (i * k) * q + i * i * r;
-    (2 * sum + n * n) >> (2 * s + 1)
-}
-
-// The ith point.
-fn joint_at(controls: Controls, s: u32, i: u32) -> Spot
-    requires { ⌜ Bends controls × (s ≤ 6) × (i ≤ 2 ^ s) ⌝ }
-    ensures { λ r. ⌜ r ≡ jointAt controls s i ⌝ }
-{
-    Spot {
-        x: joint(controls.x0, controls.x1, controls.x2, s, i),
-        y: joint(controls.y0, controls.y1, controls.y2, s, i),
+    let two = sum.two;
+    let three = sum.three;
+    Powers {
+        one: sum.one + two + three,
+        two: 2 * two + 6 * three,
+        three: 6 * three,
     }
 }
 
-// Draws the line between two points within the limits.
+// The walk at 0.
+fn begin(terms: Terms) -> Walk
+    requires { ⌜ Small terms ⌝ }
+    ensures { λ r. ⌜ Walks terms 0 r ⌝ }
+{
+    let gained = changes(terms.gains);
+    let lost = changes(terms.losses);
+    Walk {
+        value: terms.start,
+        first: std::num::wrapping_sub_u64(gained.one, lost.one),
+        second: std::num::wrapping_sub_u64(gained.two, lost.two),
+        third: std::num::wrapping_sub_u64(gained.three, lost.three),
+    }
+}
+
+// The walk one further.
+fn next(walk: Walk) -> Walk
+    ensures { λ r. ⌜ r ≡ nextWalk walk ⌝ }
+{
+    let first = walk.first;
+    let second = walk.second;
+    let third = walk.third;
+    Walk {
+        value: std::num::wrapping_add_u64(walk.value, first),
+        first: std::num::wrapping_add_u64(first, second),
+        second: std::num::wrapping_add_u64(second, third),
+        third,
+    }
+}
+
+// The walk along a coordinate of three moved control values, at the first point.
+fn quadratic(p: u32, q: u32, r: u32, s: u32) -> Walk
+    requires { ⌜ Moved p × Moved q × Moved r × (s ≤ 6) ⌝ }
+    ensures { λ w. ⌜ Follows (unmoved p ∷ unmoved q ∷ unmoved r ∷ []) s 0 w ⌝ }
+{
+    let n = pieces(s) as u64;
+    let a = p as u64;
+    let b = q as u64;
+    let c = r as u64;
+    begin(Terms {
+        start: (2 * a + 1) * (n * n),
+        gains: Powers {
+            one: 4 * (n * b),
+            two: 2 * (a + c),
+            three: 0,
+        },
+        losses: Powers {
+            one: 4 * (n * a),
+            two: 4 * b,
+            three: 0,
+        },
+    })
+}
+
+// And of four.
+fn cubic(p: u32, q: u32, r: u32, t: u32, s: u32) -> Walk
+    requires { ⌜ Moved p × Moved q × Moved r × Moved t × (s ≤ 6) ⌝ }
+    ensures { λ w. ⌜ Follows (unmoved p ∷ unmoved q ∷ unmoved r ∷ unmoved t ∷ []) s 0 w ⌝ }
+{
+    let n = pieces(s) as u64;
+    let nn = n * n;
+    let a = p as u64;
+    let b = q as u64;
+    let c = r as u64;
+    let d = t as u64;
+    begin(Terms {
+        start: (2 * a + 1) * (nn * n),
+        gains: Powers {
+            one: 6 * (nn * b),
+            two: 6 * (n * (a + c)),
+            three: 2 * (3 * b + d),
+        },
+        losses: Powers {
+            one: 6 * (nn * a),
+            two: 12 * (n * b),
+            three: 2 * (a + 3 * c),
+        },
+    })
+}
+
+// The way of three control points, at the first point.
+fn by_three(p0: Cell, p1: Cell, p2: Cell, s: u32) -> Way
+    requires { ⌜ (allInLimits (p0 ∷ p1 ∷ p2 ∷ []) ≡ true) × (s ≤ 6) ⌝ }
+    ensures { λ r. ⌜ Leads (p0 ∷ p1 ∷ p2 ∷ []) s 0 r ⌝ }
+{
+    let a = sheet::lift_cell(p0);
+    let b = sheet::lift_cell(p1);
+    let c = sheet::lift_cell(p2);
+    Way {
+        x: quadratic(a.x, b.x, c.x, s),
+        y: quadratic(a.y, b.y, c.y, s),
+        shift: 2 * s + 1,
+    }
+}
+
+// And of four.
+fn by_four(p0: Cell, p1: Cell, p2: Cell, p3: Cell, s: u32) -> Way
+    requires { ⌜ (allInLimits (p0 ∷ p1 ∷ p2 ∷ p3 ∷ []) ≡ true) × (s ≤ 6) ⌝ }
+    ensures { λ r. ⌜ Leads (p0 ∷ p1 ∷ p2 ∷ p3 ∷ []) s 0 r ⌝ }
+{
+    let a = sheet::lift_cell(p0);
+    let b = sheet::lift_cell(p1);
+    let c = sheet::lift_cell(p2);
+    let d = sheet::lift_cell(p3);
+    Way {
+        x: cubic(a.x, b.x, c.x, d.x, s),
+        y: cubic(a.y, b.y, c.y, d.y, s),
+        shift: 3 * s + 1,
+    }
+}
+
+// The way along a curve, at its first point.
+fn way_of(controls: Controls, s: u32) -> Way
+    requires { ⌜ (allInLimits (pointsOf controls) ≡ true) × (s ≤ 6) ⌝ }
+    ensures { λ r. ⌜ Leads (pointsOf controls) s 0 r ⌝ }
+{
+    match controls {
+        Controls::Three(p0, p1, p2) => by_three(p0, p1, p2, s),
+        Controls::Four(p0, p1, p2, p3) => by_four(p0, p1, p2, p3, s),
+    }
+}
+
+// One coordinate of the point that the walk is at.
+fn divided(walk: Walk, shift: u32) -> u32
+    requires { ⌜ Divides walk shift ⌝ }
+    ensures { λ r. ⌜ r ≡ walk .value / 2 ^ shift ⌝ }
+{
+    (walk.value >> shift) as u32
+}
+
+// The point that the way is at.
+fn spot_of(way: Way) -> Spot
+    requires { ⌜ Divides (way .x) (way .shift) × Divides (way .y) (way .shift) ⌝ }
+    ensures { λ r. ⌜ r ≡ spotOf way ⌝ }
+{
+    let shift = way.shift;
+    Spot {
+        x: divided(way.x, shift),
+        y: divided(way.y, shift),
+    }
+}
+
+// The way one further.
+fn advanced(way: Way) -> Way
+    ensures { λ r. ⌜ r ≡ nextWay way ⌝ }
+{
+    let shift = way.shift;
+    Way {
+        x: next(way.x),
+        y: next(way.y),
+        shift,
+    }
+}
+
+// Whether two coordinates are the same or neighbours.
+fn near(a: u32, b: u32) -> bool
+    requires { ⌜ (a < 131072) × (b < 131072) ⌝ }
+    ensures { λ r. ⌜ r ≡ (leb a (b + 1) && leb b (a + 1)) ⌝ }
+{
+    (a <= b + 1) & (b <= a + 1)
+}
+
+// Draws the line between two points within the limits; where they touch, or are one, it is just these.
 fn piece(sheet: &mut [u8], shape: Shape, ink: u8, from: Spot, to: Spot)
     requires { ⌜ Sheet shape (now sheet) ⌝ }
     requires { ⌜ (inLimits (unmovedCell from) ≡ true) × (inLimits (unmovedCell to) ≡ true) ⌝ }
     ensures { λ r. ⌜ now (sheet .exit) ≡ paint shape ink (onLine (unmovedCell from) (unmovedCell to)) (now (sheet .entry)) ⌝ }
 {
-    line::draw_line(
-        sheet,
-        shape,
-        ink,
-        sheet::lower_cell(from),
-        sheet::lower_cell(to),
-    );
+    if near(from.x, to.x) & near(from.y, to.y) {
+        sheet::ink_at(sheet, shape, ink, from);
+        sheet::ink_at(sheet, shape, ink, to);
+        return;
+    }
+    line::draw_between(sheet, shape, ink, from, to);
 }
 
 // Draws the lines between each point and the next.
 fn join(sheet: &mut [u8], shape: Shape, ink: u8, controls: Controls, s: u32)
-    requires { ⌜ Sheet shape (now sheet) × Bends controls × (s ≤ 6) ⌝ }
-    ensures { λ r. ⌜ now (sheet .exit) ≡ paint shape ink (firstPieces controls s (2 ^ s)) (now (sheet .entry)) ⌝ }
+    requires { ⌜ Sheet shape (now sheet) × (allInLimits (pointsOf controls) ≡ true) × (s ≤ 6) ⌝ }
+    ensures { λ r. ⌜ now (sheet .exit) ≡ paint shape ink (onCurve (pointsOf controls) s) (now (sheet .entry)) ⌝ }
 {
     let n = pieces(s);
-    let mut from = joint_at(controls, s, 0);
+    let mut way = way_of(controls, s);
+    let mut from = spot_of(way);
     let mut i: u32 = 0;
     while i < n {
         i += 1;
-        let to = joint_at(controls, s, i);
+        way = advanced(way);
+        let to = spot_of(way);
         piece(sheet, shape, ink, from, to);
         from = to;
     }
 }
 
 // Whether all control points are within the limits.
-fn in_limits(p0: Cell, p1: Cell, p2: Cell) -> bool
-    ensures { λ r. ⌜ r ≡ allInLimits (p0 ∷ p1 ∷ p2 ∷ []) ⌝ }
+fn in_limits(controls: Controls) -> bool
+    ensures { λ r. ⌜ r ≡ allInLimits (pointsOf controls) ⌝ }
 {
-    sheet::in_limits(p0) & (sheet::in_limits(p1) & sheet::in_limits(p2))
-}
-
-// The control points, lifted.
-fn controls_of(p0: Cell, p1: Cell, p2: Cell) -> Controls
-    ensures { λ r. ⌜ r ≡ controlsOf p0 p1 p2 ⌝ }
-{
-    let a = sheet::lift_cell(p0);
-    let b = sheet::lift_cell(p1);
-    let c = sheet::lift_cell(p2);
-    Controls {
-        x0: a.x,
-        y0: a.y,
-        x1: b.x,
-        y1: b.y,
-        x2: c.x,
-        y2: c.y,
+    match controls {
+        Controls::Three(p0, p1, p2) => {
+            sheet::in_limits(p0) & (sheet::in_limits(p1) & sheet::in_limits(p2))
+        }
+        Controls::Four(p0, p1, p2, p3) => {
+            sheet::in_limits(p0)
+                & (sheet::in_limits(p1) & (sheet::in_limits(p2) & sheet::in_limits(p3)))
+        }
     }
 }
 
 // Draws the curve with these control points, split into 2^s pieces.
+fn draw(sheet: &mut [u8], shape: Shape, ink: u8, controls: Controls, s: u32) -> Reply
+    ensures { λ r. ⌜ Draws (curveDrawing shape ink (pointsOf controls) s) (now (sheet .entry)) (told r) (now (sheet .exit)) ⌝ }
+{
+    let tested = sheet::check(shape, sheet.len());
+    if !tested.is_done() {
+        return tested;
+    }
+    if !in_limits(controls) {
+        return Reply::Refused(Refusal::Coordinate);
+    }
+    if !sheet::is_split(s) {
+        return Reply::Refused(Refusal::Pieces);
+    }
+    join(sheet, shape, ink, controls, s);
+    Reply::Done
+}
+
+// Draws a quadratic curve.
 pub fn draw_curve(
     sheet: &mut [u8],
     shape: Shape,
@@ -123,17 +314,21 @@ pub fn draw_curve(
 ) -> Reply
     ensures { λ r. ⌜ Draws (curveDrawing shape ink (p0 ∷ p1 ∷ p2 ∷ []) s) (now (sheet .entry)) (told r) (now (sheet .exit)) ⌝ }
 {
-    let tested = sheet::check(shape, sheet.len());
-    if !tested.is_done() {
-        return tested;
-    }
-    if !in_limits(p0, p1, p2) {
-        return Reply::Refused(Refusal::Coordinate);
-    }
-    if !sheet::is_split(s) {
-        return Reply::Refused(Refusal::Pieces);
-    }
-    let controls = controls_of(p0, p1, p2);
-    join(sheet, shape, ink, controls, s);
-    Reply::Done
+    draw(sheet, shape, ink, Controls::Three(p0, p1, p2), s)
+}
+
+// Draws a cubic curve.
+pub fn draw_cubic(
+    sheet: &mut [u8],
+    shape: Shape,
+    ink: u8,
+    p0: Cell,
+    p1: Cell,
+    p2: Cell,
+    p3: Cell,
+    s: u32,
+) -> Reply
+    ensures { λ r. ⌜ Draws (curveDrawing shape ink (p0 ∷ p1 ∷ p2 ∷ p3 ∷ []) s) (now (sheet .entry)) (told r) (now (sheet .exit)) ⌝ }
+{
+    draw(sheet, shape, ink, Controls::Four(p0, p1, p2, p3), s)
 }

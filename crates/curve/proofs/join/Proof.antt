@@ -1,51 +1,83 @@
 -- `curve::join` meets its contract.
-use Prim.Native.Nat.{_-_}
-use mathlib.Core.Path.{sym, _∙_}
+use Prim.Native.Nat.{_-_, _+_, _^_, _≤_}
+use mathlib.Core.Path.{sym, subst, ap, _∙_}
+use mathlib.Core.List.{List}
 use native.Mathlib.Omega.{arith}
 use denote.Ref.{now}
-use Rattle.curve.proofs.Between.{joint-in}
-use Rattle.curve.proofs.Joining.{Joining, begins, turn, ends}
+use Rattle.sheet.specs.Sheet.{inLimits}
+use Rattle.sheet.specs.Inner.{unmovedCell}
+use Rattle.sheet.specs.declared.Cell.{Cell}
+use Rattle.curve.specs.Inner.{pointsOf, Leads}
+use Rattle.curve.specs.declared.Way.{Way}
+use Rattle.curve.proofs.Answers.{points-some, points-few, leads-next, spot-stands, way-divides}
+use Rattle.curve.proofs.Between.{point-inside}
+use Rattle.curve.proofs.Joining.{Begun, Joining, begins, turn, ends}
 use Rattle.curve.proofs.join.Statement.{statement}
 use Rattle.curve.proofs.join.Tie as tie
 
+-- of the control points the loop keeps no more than the way that it began with: it joins the points of each curve that this leads along
 abbrev Inv-loop : tie.InvT-loop
-Inv-loop sheet₀ shape ink controls s n from₀ i₀ sheet from i = Joining shape ink controls s sheet₀ sheet from i
+Inv-loop sheet₀ shape ink s n way₀ from₀ i₀ sheet way from i = (ps : List Cell) → Begun ps s way₀ → Joining shape ink ps s sheet₀ sheet way from i
 
 abbrev μ-loop : tie.MeasureT-loop
-μ-loop sheet₀ shape ink controls s n from₀ i₀ sheet from i = n - i
+μ-loop sheet₀ shape ink s n way₀ from₀ i₀ sheet way from i = n - i
+
+begun : (c : tie.After-way-of Inv-loop μ-loop) → let a = c .before .before .before .args in Begun (pointsOf (a .controls)) (a .s) (c .way-of .result)
+begun c =
+    let start = c .before .before .before in
+    let k = start .args .controls in
+    record { some = points-some k; few = points-few k; inside = start .pre .1; split = start .pre .2; leads = c .way-of .ensures }
+
+-- a turn goes one point further, and there is one
+low : (c : tie.In-loop Inv-loop μ-loop) → c .before .loop .i + 1 ≤ 2 ^ c .before .before .before .before .before .before .args .s
+low c = omega (arith, c .before .before .before .before .pieces .ensures .0)
+
+further : (c : tie.After-advanced Inv-loop μ-loop) → let head = c .before .before in let led = head .before .before in
+    (ps : List Cell) → Begun ps (led .before .before .before .args .s) (led .way-of .result) → Leads ps (led .before .before .before .args .s) (head .loop .i + 1) (c .advanced .result)
+further c ps b =
+    let head = c .before .before in
+    let s = head .before .before .before .before .before .args .s in
+    subst (λ (w : Way). Leads ps s (head .loop .i + 1) w) (sym (c .advanced .ensures))
+    (leads-next ps (b .some) (b .few) s (head .loop .i) (head .loop .way) (head .loop .inv ps b .leads) (b .split))
 
 pieces-requires : tie.Need-pieces-requires Inv-loop μ-loop
 pieces-requires c κs = c .before .pre .2
 
-joint-at-requires : tie.Need-joint-at-requires Inv-loop μ-loop
-joint-at-requires c κs = let p = c .before .before .pre in (p .1, p .2, omega arith)
+way-of-requires : tie.Need-way-of-requires Inv-loop μ-loop
+way-of-requires c κs = let p = c .before .before .pre in (p .1, p .2)
+
+spot-of-requires : tie.Need-spot-of-requires Inv-loop μ-loop
+spot-of-requires c κs =
+    let b = begun c in
+    way-divides _ (b .some) (b .few) _ 0 (c .way-of .result) (b .leads) (b .split) (omega arith) (b .inside)
 
 loop-holds : tie.Need-loop-holds Inv-loop μ-loop
 loop-holds c =
-    let start = c .before .before .before in
+    let start = c .before .before .before .before in
     let a = start .args in
-    begins (a .shape) (a .ink) (a .controls) (a .s) (now (a .sheet)) (c .joint-at .result) (start .pre .0) (c .joint-at .ensures)
+    λ ps b.
+    begins (a .shape) (a .ink) ps (a .s) (now (a .sheet)) (c .before .way-of .result) (c .spot-of .result) (start .pre .0) (b .leads)
+    (ap unmovedCell (c .spot-of .ensures) ∙ spot-stands ps (b .some) (b .few) (a .s) 0 _ (b .leads) (b .split) (omega arith))
 
 add-i : tie.Need-add-i Inv-loop μ-loop
-add-i c = omega (arith, c .before .before .before .pieces .ensures .1)
+add-i c = omega (arith, c .before .before .before .before .pieces .ensures .1)
 
-joint-at-requires-2 : tie.Need-joint-at-requires-2 Inv-loop μ-loop
-joint-at-requires-2 c κs =
-    let counted = c .before .before .before in
-    let p = counted .before .before .pre in
-    (p .1, p .2, omega (arith, counted .pieces .ensures .0))
+advanced-requires : tie.Need-advanced-requires Inv-loop μ-loop
+advanced-requires c κs = tt
+
+spot-of-requires-2 : tie.Need-spot-of-requires-2 Inv-loop μ-loop
+spot-of-requires-2 c κs =
+    let b = begun (c .before .before .before .before) in
+    way-divides _ (b .some) (b .few) _ _ (c .advanced .result) (further c _ b) (b .split) (low (c .before)) (b .inside)
 
 piece-requires : tie.Need-piece-requires Inv-loop μ-loop
 piece-requires c κs =
-    let head = c .before .before .before in
-    let counted = head .before .before in
-    let start = counted .before .before in
-    let a = start .args in
-    let g = head .loop .inv in
-    let bent = start .pre .1 in
-    let from = joint-in (a .controls) (a .s) (head .loop .i) (head .loop .from) bent (g .low) (g .from-is) in
-    let to = joint-in (a .controls) (a .s) _ _ bent (omega (arith, counted .pieces .ensures .0)) (c .before .joint-at2 .ensures) in
-    (g .sized, (from, to))
+    let pointed = c .before in
+    let head = pointed .before .before .before in
+    let b = begun (head .before .before) in
+    let g = head .loop .inv _ b in
+    let e = ap unmovedCell (pointed .spot-of2 .ensures) ∙ spot-stands _ (b .some) (b .few) _ _ _ (further (pointed .before) _ b) (b .split) (low (pointed .before .before)) in
+    (g .sized, (ap inLimits (g .from-is) ∙ point-inside _ _ _ (b .some) (g .low) (b .inside), ap inLimits e ∙ point-inside _ _ _ (b .some) (low (pointed .before .before)) (b .inside)))
 
 loop-less : tie.Need-loop-less Inv-loop μ-loop
 loop-less c = omega arith
@@ -54,23 +86,27 @@ loop-again : tie.Need-loop-again Inv-loop μ-loop
 loop-again c =
     let called = c .before .before in
     let pointed = called .before .before in
-    let head = pointed .before .before in
-    let counted = head .before .before in
-    let a = counted .before .before .args in
-    turn (a .shape) (a .ink) (a .controls) (a .s) (now (a .sheet)) (head .loop .sheet) _ (head .loop .from) (pointed .joint-at2 .result) (head .loop .i) (head .loop .inv)
-    (omega (arith, counted .pieces .ensures .0)) (pointed .joint-at2 .ensures) (called .piece .ensures)
+    let head = pointed .before .before .before in
+    let a = head .before .before .before .before .before .args in
+    λ ps b.
+    let h = further (pointed .before) ps b in
+    let m = low (pointed .before .before) in
+    turn (a .shape) (a .ink) ps (a .s) (now (a .sheet)) (head .loop .sheet) _ (head .loop .way) _ (head .loop .from) (pointed .spot-of2 .result) (head .loop .i)
+    (head .loop .inv ps b) m h (ap unmovedCell (pointed .spot-of2 .ensures) ∙ spot-stands ps (b .some) (b .few) (a .s) _ _ h (b .split) m) (called .piece .ensures)
 
 same-length : tie.Need-same-length Inv-loop μ-loop
 same-length c =
-    let start = c .before .before .before .before .before in
-    c .before .loop .inv .sized .area ∙ sym (start .pre .0 .area)
+    let head = c .before in
+    let start = head .before .before .before .before .before in
+    head .loop .inv _ (begun (head .before .before)) .sized .area ∙ sym (start .pre .0 .area)
 
 returns : tie.Need-returns Inv-loop μ-loop
 returns c =
     let head = c .before in
-    let counted = head .before .before in
+    let counted = head .before .before .before in
     let a = counted .before .before .args in
-    ends (a .shape) (a .ink) (a .controls) (a .s) (now (a .sheet)) (head .loop .sheet) (head .loop .from) (head .loop .i) (head .loop .inv) (omega (arith, counted .pieces .ensures .0))
+    ends (a .shape) (a .ink) _ (a .s) (now (a .sheet)) (head .loop .sheet) (head .loop .way) (head .loop .from) (head .loop .i)
+    (head .loop .inv _ (begun (head .before .before))) (omega (arith, counted .pieces .ensures .0))
 
 pub join-spec : {M : Type 1} → statement M
 join-spec =
@@ -79,10 +115,12 @@ join-spec =
     Inv-loop
     μ-loop
     pieces-requires
-    joint-at-requires
+    way-of-requires
+    spot-of-requires
     loop-holds
     add-i
-    joint-at-requires-2
+    advanced-requires
+    spot-of-requires-2
     piece-requires
     loop-less
     loop-again
