@@ -28,7 +28,7 @@
 #include <stdint.h>
 
 /* the version of this header and of the library installed with it */
-#define PW_VERSION "0.3.0"
+#define PW_VERSION "0.3.1"
 
 #if SIZE_MAX != UINT64_MAX
 #error "Pistonwool is for 64-bit machines only"
@@ -87,6 +87,11 @@ uint32_t pw_ellipse(uint8_t *sheet, size_t len, uint32_t width, uint32_t height,
  * their own: PW_COORDINATE speaks of the control points. */
 uint32_t pw_curve(uint8_t *sheet, size_t len, uint32_t width, uint32_t height, uint32_t pitch, uint8_t ink,
                   int32_t x0, int32_t y0, int32_t x1, int32_t y1, int32_t x2, int32_t y2, uint32_t s);
+
+/* Draws the cubic Bezier curve with these control points, likewise. */
+uint32_t pw_cubic(uint8_t *sheet, size_t len, uint32_t width, uint32_t height, uint32_t pitch, uint8_t ink,
+                  int32_t x0, int32_t y0, int32_t x1, int32_t y1, int32_t x2, int32_t y2, int32_t x3, int32_t y3,
+                  uint32_t s);
 
 /* Fills a territory: sets to the territory ink exactly the cells that can be reached from the start (x, y) by steps to a side
  * neighbour on the sheet without entering a cell of the boundary ink, judged on the sheet as it is lent. *cells is then how

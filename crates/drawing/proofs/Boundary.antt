@@ -2,6 +2,7 @@
 use Prim.Native.Nat.{ℕ}
 use mathlib.Core.Path.{_≡_, refl, sym, subst, ap, _∙_}
 use mathlib.Core.List.{List, [], _∷_, map}
+use native.Mathlib.Omega.{arith}
 use mathlib.Core.Logic.{inl, inr}
 use mathlib.Core.Bool.{Bool, true, false, cond, _||_, and-comm}
 use lib.Dec.{T}
@@ -76,7 +77,8 @@ module _ (k : Shape) (ink : ℕ) where
 same-figure : (f g : Figure) (c : Cell) → SameFigure f g → onFigure f c ≡ onFigure g c
 same-figure _ _ c (SameFigure.alike f) = refl
 same-figure _ _ c (SameFigure.line a b) = onLine-either a b c
-same-figure _ _ c (SameFigure.curve p q r s) = on-curve-either p q r s c
+same-figure _ _ c (SameFigure.curve p q r s) = on-curve-either (p ∷ q ∷ r ∷ []) s c (omega arith)
+same-figure _ _ c (SameFigure.cubic p q r t s) = on-curve-either (p ∷ q ∷ r ∷ t ∷ []) s c (omega arith)
 same-figure _ _ c (SameFigure.circle centre r) = refl
 same-figure _ _ c (SameFigure.ellipse centre r) = refl
 

@@ -13,7 +13,7 @@ use Rattle.sheet.specs.Reply.{Answer}
 use Rattle.sheet.specs.Drawing.{ifSheet, Draws}
 use Rattle.sheet.specs.declared.Shape.{Shape}
 use Rattle.sheet.specs.declared.Figure.{Figure}
-use Rattle.sheet.specs.declared.Figure.the-variants.{Line, Circle, Ellipse, Curve}
+use Rattle.sheet.specs.declared.Figure.the-variants.{Line, Circle, Ellipse, Curve, Cubic}
 use Rattle.sheet.proofs.Draws.{draws-as}
 use Rattle.line.specs.Rule.{lesser, rise, fromLesser, nth, onLine}
 use Rattle.line.specs.Draw.{lineAnswer}
@@ -65,6 +65,10 @@ ellipse-draws a h = nothing (h .leaves)
 pub curve-draws : DrawsNothing (Curve (cellOf 0 0) (cellOf 0 0) (cellOf 0 0) 0)
 unfolding paint byPlace held onSheet cellAt curveAnswer allInLimits ifSheet inLimits coordinate onCurve pointAt coordinateAt blend onLine nth fromLesser lesser rise isCell any
 curve-draws a h = nothing (h .leaves)
+
+pub cubic-draws : DrawsNothing (Cubic (cellOf 0 0) (cellOf 0 0) (cellOf 0 0) (cellOf 0 0) 0)
+unfolding paint byPlace held onSheet cellAt curveAnswer allInLimits ifSheet inLimits coordinate onCurve pointAt coordinateAt blend onLine nth fromLesser lesser rise isCell any
+cubic-draws a h = nothing (h .leaves)
 
 -- and the listing of its one cell (0,0) leaves 0 in a list that was lent as 1
 pub list-draws : (a : Answer) (ys : List ℤ) → ListsInto (cellOf 0 0) (cellOf 0 0) (pos 1 ∷ []) (pos 1 ∷ []) a (pos 1 ∷ []) ys → ⊥

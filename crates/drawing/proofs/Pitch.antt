@@ -10,7 +10,7 @@ use Rattle.sheet.specs.Drawing.{only}
 use Rattle.sheet.specs.Pitch.{withPitch, AnyPitch}
 use Rattle.sheet.specs.declared.Shape.{Shape}
 use Rattle.sheet.specs.declared.Figure.{Figure}
-use Rattle.sheet.specs.declared.Figure.the-variants.{Line, Circle, Ellipse, Curve}
+use Rattle.sheet.specs.declared.Figure.the-variants.{Line, Circle, Ellipse, Curve, Cubic}
 use Rattle.sheet.specs.declared.Refusal.the-variants.{Coordinate}
 use Rattle.sheet.proofs.Count.{cells-pitch}
 use Rattle.sheet.proofs.Limits.{fits-disjoint}
@@ -40,6 +40,7 @@ figure-any-pitch ink (Line a b) =
 figure-any-pitch ink (Circle c r) = any-sheet _ _
 figure-any-pitch ink (Ellipse c a b) = any-sheet _ _
 figure-any-pitch ink (Curve p0 p1 p2 s) = any-sheet _ _
+figure-any-pitch ink (Cubic p0 p1 p2 p3 s) = any-sheet _ _
 
 -- a figure in metres
 cells-any-pitch : (ink : ℕ) (i : InCells) → AnyPitch (λ (k : Shape). cellsDrawing k ink i)

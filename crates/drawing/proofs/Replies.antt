@@ -140,6 +140,10 @@ pub curve-both : Both (λ (s : ℕ). curveAnswer small (origin ∷ origin ∷ or
 unfolding curveAnswer allInLimits ifSheet inLimits coordinate
 curve-both = record { done = refl; refused = refl }
 
+pub cubic-both : Both (λ (s : ℕ). curveAnswer small (origin ∷ origin ∷ origin ∷ origin ∷ []) s 1) 0 7
+unfolding curveAnswer allInLimits ifSheet inLimits coordinate
+cubic-both = record { done = refl; refused = refl }
+
 -- of survey: a survey whose cell size is 0.0; what is divided by it is not a number
 abbrev flat : Survey
 flat = record { east = whole 0; north = whole 0; size = whole 0 }

@@ -63,8 +63,11 @@ starred =
     none)))))))))))
 
 pub own-examples : AllHold ownExamples
-unfolding ownExamples among rows row span mirrored around ellipseRule nearest
+unfolding ownExamples among rows row span mirrored around ellipseRule nearest listed blend coordinateAt pointAt
 own-examples =
     also (ellipse-holds 10 10 1 _ from101 (omega arith) (omega arith) refl refl)
     (also (ellipse-holds 4 0 0 _ from0 (omega arith) (omega arith) refl refl)
-    none)
+    (also refl
+    (also refl
+    (also refl
+    none))))

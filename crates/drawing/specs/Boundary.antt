@@ -4,7 +4,7 @@ use mathlib.Core.Path.{_≡_}
 use mathlib.Core.List.{List, [], _∷_}
 use Rattle.sheet.specs.declared.Cell.{Cell}
 use Rattle.sheet.specs.declared.Figure.{Figure}
-use Rattle.sheet.specs.declared.Figure.the-variants.{Line, Circle, Ellipse, Curve}
+use Rattle.sheet.specs.declared.Figure.the-variants.{Line, Circle, Ellipse, Curve, Cubic}
 use Rattle.record.specs.declared.types.Record.{Record}
 
 -- one figure, named by two: alike, from its other end, or a circle as the ellipse of equal axes
@@ -12,6 +12,7 @@ pub data SameFigure : (f g : Figure) → Type 0 where
   alike : (f : Figure) → SameFigure f f
   line : (a b : Cell) → SameFigure (Line a b) (Line b a)
   curve : (p q r : Cell) (s : ℕ) → SameFigure (Curve p q r s) (Curve r q p s)
+  cubic : (p q r t : Cell) (s : ℕ) → SameFigure (Cubic p q r t s) (Cubic t r q p s)
   circle : (c : Cell) (r : ℕ) → SameFigure (Circle c r) (Ellipse c r r)
   ellipse : (c : Cell) (r : ℕ) → SameFigure (Ellipse c r r) (Circle c r)
 

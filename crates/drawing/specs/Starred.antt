@@ -105,6 +105,20 @@ from101 =
     cellOf 0 1 ∷ cellOf 1 1 ∷ cellOf 2 1 ∷ cellOf 3 1 ∷ cellOf 4 1 ∷ cellOf 5 1 ∷ cellOf 6 1 ∷ cellOf 7 1 ∷ cellOf 8 1
     ∷ cellOf 9 0 ∷ cellOf 10 0 ∷ []
 
--- Document 02, K10: an ellipse with both axes 0 is one cell
+-- Document 02, K13: cubics, one with a half below zero that is rounded up and less than a half that is not. Source document 001 prints the
+-- polynomial 32ht³ − 48ht² + 18ht − h of the control values −h, 5h, −5h and h: at t = 0, 1/4, .. it is −h, h, 0, −h and h, here for h = 3.
+abbrev pub minus : ℕ → ℤ
+minus n = negℤ (pos n)
+
+abbrev pub shaped : List Cell
+shaped = cell (minus 3) (pos 0) ∷ cellOf 15 4 ∷ cell (minus 15) (pos 8) ∷ cellOf 3 12 ∷ []
+
+-- and K10: an ellipse with both axes 0 is one cell
 unfoldable pub ownExamples : List Example
-ownExamples = ring 10 (onEllipse (cellOf 0 0) 10 1) from101 38 ∷ ring 4 (onEllipse (cellOf 0 0) 0 0) from0 1 ∷ []
+ownExamples =
+    ring 10 (onEllipse (cellOf 0 0) 10 1) from101 38
+    ∷ ring 4 (onEllipse (cellOf 0 0) 0 0) from0 1
+    ∷ curve (cellOf 0 0 ∷ cellOf 0 4 ∷ cellOf 4 4 ∷ cellOf 4 0 ∷ []) 1 (cellOf 0 0 ∷ cellOf 2 3 ∷ cellOf 4 0 ∷ [])
+    ∷ curve (cell less less ∷ cell less less ∷ cell (pos 0) less ∷ cellOf 0 0 ∷ []) 1 (cell less less ∷ cell (pos 0) less ∷ cellOf 0 0 ∷ [])
+    ∷ curve shaped 2 (cell (minus 3) (pos 0) ∷ cellOf 3 3 ∷ cellOf 0 6 ∷ cell (minus 3) (pos 9) ∷ cellOf 3 12 ∷ [])
+    ∷ []

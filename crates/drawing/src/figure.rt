@@ -15,5 +15,8 @@ pub fn draw_figure(sheet: &mut [u8], shape: Shape, ink: u8, figure: Figure) -> R
         Figure::Circle(centre, r) => ring::draw_ellipse(sheet, shape, ink, centre, r, r),
         Figure::Ellipse(centre, a, b) => ring::draw_ellipse(sheet, shape, ink, centre, a, b),
         Figure::Curve(p0, p1, p2, s) => curve::draw_curve(sheet, shape, ink, p0, p1, p2, s),
+        Figure::Cubic(p0, p1, p2, p3, s) => {
+            curve::draw_cubic(sheet, shape, ink, p0, p1, p2, p3, s)
+        }
     }
 }

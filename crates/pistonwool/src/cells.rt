@@ -65,7 +65,7 @@ pub extern "C" fn pw_ellipse(
     reply.number()
 }
 
-// Draws a curve in 2^s pieces.
+// Draws a quadratic curve in 2^s pieces.
 #[no_mangle]
 pub extern "C" fn pw_curve(
     sheet: &mut [u8],
@@ -93,6 +93,40 @@ pub extern "C" fn pw_curve(
     let p1 = Cell { x: x1, y: y1 };
     let p2 = Cell { x: x2, y: y2 };
     let reply = curve::draw_curve(sheet, shape, ink, p0, p1, p2, s);
+    reply.number()
+}
+
+// Draws a cubic curve in 2^s pieces.
+#[no_mangle]
+pub extern "C" fn pw_cubic(
+    sheet: &mut [u8],
+    width: u32,
+    height: u32,
+    pitch: u32,
+    ink: u8,
+    x0: i32,
+    y0: i32,
+    x1: i32,
+    y1: i32,
+    x2: i32,
+    y2: i32,
+    x3: i32,
+    y3: i32,
+    s: u32,
+) -> u32
+    ensures { λ d. ⌜ Draws (curveDrawing (shapeOf width height pitch) ink (cell x0 y0 ∷ cell x1 y1 ∷ cell x2 y2 ∷ cell x3 y3 ∷ []) s)
+        (now (sheet .entry)) (numbered d) (now (sheet .exit)) ⌝ }
+{
+    let shape = Shape {
+        width,
+        height,
+        pitch,
+    };
+    let p0 = Cell { x: x0, y: y0 };
+    let p1 = Cell { x: x1, y: y1 };
+    let p2 = Cell { x: x2, y: y2 };
+    let p3 = Cell { x: x3, y: y3 };
+    let reply = curve::draw_cubic(sheet, shape, ink, p0, p1, p2, p3, s);
     reply.number()
 }
 

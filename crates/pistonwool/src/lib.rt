@@ -10,6 +10,7 @@ mod metres;
 mod pen;
 mod territory;
 
+pub use cells::pw_cubic;
 pub use cells::pw_curve;
 pub use cells::pw_ellipse;
 pub use cells::pw_line;

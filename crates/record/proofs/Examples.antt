@@ -7,8 +7,8 @@ use lib.IntN.{pos, negsuc}
 use lib.ListN.{length, length-take, length-drop}
 use Rattle.sheet.specs.Reply.{Answer, done, refuseAt}
 use Rattle.sheet.specs.Sheet as sheet
-use Rattle.sheet.specs.declared.Refusal.the-variants.{Coordinate, Radius, Pieces, Short, Kind, Kindless}
-use Rattle.record.specs.Layout.{Row, kindWord, wordAt, widths, signed, lineRow, circleRow, ellipseRow, curveRow, table}
+use Rattle.sheet.specs.declared.Refusal.the-variants.{Coordinate, Radius, Pieces, Short, Kind, Length, Kindless}
+use Rattle.record.specs.Layout.{Row, kindWord, wordAt, widths, signed, lineRow, circleRow, ellipseRow, curveRow, cubicRow, table}
 use Rattle.record.specs.Reading.{valuesFrom, limitedFrom, rowFound, kindFound, payloadAt, foundAt, readAt, readAnswer}
 use Rattle.record.specs.File.{readIn, readFrom, readAll, fileAnswer}
 
@@ -63,16 +63,28 @@ examples =
       whole = done (pos 1 ∷ []);
     }
     ∷ record { file = 16 ∷ 0 ∷ 4 ∷ 0 ∷ 1 ∷ 0 ∷ 0 ∷ 0 ∷ 0 ∷ 2 ∷ 0 ∷ 4 ∷ 0 ∷ 4 ∷ 0 ∷ 0 ∷ 0 ∷ 7 ∷ []; first = refuseAt Pieces 17; whole = refuseAt Pieces 17 }
+    -- a cubic is read; its last control point is named where it is outside the limits, also beside an s of 7; and its length is 20
+    ∷ record {
+      file = 20 ∷ 0 ∷ 5 ∷ 0 ∷ 1 ∷ 0 ∷ 0 ∷ 0 ∷ 0 ∷ 0 ∷ 0 ∷ 4 ∷ 0 ∷ 4 ∷ 0 ∷ 4 ∷ 0 ∷ 4 ∷ 0 ∷ 255 ∷ 255 ∷ 6 ∷ [];
+      first = done (pos 0 ∷ pos 22 ∷ pos 5 ∷ pos 1 ∷ pos 0 ∷ pos 0 ∷ pos 0 ∷ pos 4 ∷ pos 4 ∷ pos 4 ∷ pos 4 ∷ negsuc 0 ∷ pos 6 ∷ []);
+      whole = done (pos 1 ∷ []);
+    }
+    ∷ record {
+      file = 20 ∷ 0 ∷ 5 ∷ 0 ∷ 1 ∷ 0 ∷ 0 ∷ 0 ∷ 0 ∷ 0 ∷ 0 ∷ 4 ∷ 0 ∷ 4 ∷ 0 ∷ 4 ∷ 0 ∷ 4 ∷ 0 ∷ 0 ∷ 64 ∷ 7 ∷ [];
+      first = refuseAt Coordinate 19;
+      whole = refuseAt Coordinate 19;
+    }
+    ∷ record { file = 16 ∷ 0 ∷ 5 ∷ 0 ∷ 1 ∷ 0 ∷ 0 ∷ 0 ∷ 0 ∷ 2 ∷ 0 ∷ 4 ∷ 0 ∷ 4 ∷ 0 ∷ 0 ∷ 0 ∷ 6 ∷ []; first = refuseAt Length 0; whole = refuseAt Length 0 }
     ∷ []
 
 pub examples-hold : (map (λ (e : Example). readAnswer (e .file) 0) examples ≡ map (λ (e : Example). e .first) examples)
     × (map (λ (e : Example). fileAnswer (e .file)) examples ≡ map (λ (e : Example). e .whole) examples)
-unfolding examples readAnswer fileAnswer readAll readFrom readIn readAt foundAt kindFound rowFound limitedFrom valuesFrom table lineRow circleRow ellipseRow curveRow signed sheet.coordinate sheet.semiAxis
+unfolding examples readAnswer fileAnswer readAll readFrom readIn readAt foundAt kindFound rowFound limitedFrom valuesFrom table lineRow circleRow ellipseRow curveRow cubicRow signed sheet.coordinate sheet.semiAxis
 examples-hold = (refl, refl)
 
 -- the table's lengths count the kind and the payload
 pub lengths-hold : map (λ (row : Row). row .length) table ≡ map (λ (row : Row). widths (kindWord ∷ row .payload)) table
-unfolding table lineRow circleRow ellipseRow curveRow
+unfolding table lineRow circleRow ellipseRow curveRow cubicRow
 lengths-hold = refl
 
 -- and so does the length of a record that the file has whole

@@ -9,7 +9,7 @@ use lib.Dec.{leb, eqb}
 use lib.ListN.{length, getD, length-take, length-drop}
 use Rattle.sheet.specs.Sheet as sheet
 use Rattle.sheet.specs.declared.Refusal.{Refusal}
-use Rattle.record.specs.Layout.{Field, lengthWord, kindWord, ink, coordinate, radius, axisA, axisB, pieces, Row, wordAt, width, valueAt, widths, kindPlace, payloadPlace, lineRow, circleRow, ellipseRow, curveRow, table}
+use Rattle.record.specs.Layout.{Field, lengthWord, kindWord, ink, coordinate, radius, axisA, axisB, pieces, Row, wordAt, width, valueAt, widths, kindPlace, payloadPlace, lineRow, circleRow, ellipseRow, curveRow, cubicRow, table}
 use Rattle.record.specs.Reading.{Found, found, end, refused, unlessAt, valuesFrom, axisAt, limited, limitedFrom, rowFound, kindFound, payloadAt, foundAt}
 
 -- the field at k within its limits, and those that follow each other from k on
@@ -76,13 +76,14 @@ module _ (at n : ℕ) (P : Found → Type 0) (no : (r : Refusal) (o : ℕ) → a
         passing (eqb (width kindWord + length p) (row .length)) _ at _ (omega arith) (omega arith)
         (λ e. let m = eqb-true (width kindWord + length p) (row .length) e in fields-have (row .payload) p 0 (payloadPlace at) _ (omega arith) (omega arith) h)
 
-    pub kind-has : (kind : ℕ) → Made lineRow → Made circleRow → Made ellipseRow → Made curveRow → P (kindFound table kind p at next)
-    unfolding kindFound table lineRow circleRow ellipseRow curveRow
-    kind-has kind a b c d =
+    pub kind-has : (kind : ℕ) → Made lineRow → Made circleRow → Made ellipseRow → Made curveRow → Made cubicRow → P (kindFound table kind p at next)
+    unfolding kindFound table lineRow circleRow ellipseRow curveRow cubicRow
+    kind-has kind a b c d f =
         by-test (eqb kind (lineRow .kind)) _ _ (λ e. row-has lineRow refl a)
         (λ e. by-test (eqb kind (circleRow .kind)) _ _ (λ e. row-has circleRow refl b)
         (λ e. by-test (eqb kind (ellipseRow .kind)) _ _ (λ e. row-has ellipseRow refl c)
-        (λ e. by-test (eqb kind (curveRow .kind)) _ _ (λ e. row-has curveRow refl d) (λ e. no _ _ (omega arith) (omega arith)))))
+        (λ e. by-test (eqb kind (curveRow .kind)) _ _ (λ e. row-has curveRow refl d)
+        (λ e. by-test (eqb kind (cubicRow .kind)) _ _ (λ e. row-has cubicRow refl f) (λ e. no _ _ (omega arith) (omega arith))))))
 
 module _ (s : List ℕ) (at : ℕ) (P : Found → Type 0) (no : (r : Refusal) (o : ℕ) → at ≤ o → o < length s → P (refused r o)) where
   pub found-has : P end

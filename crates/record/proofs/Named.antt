@@ -22,7 +22,7 @@ unfolding readAt
 read-names s at =
     let P : Found → Type 0 = λ f. Names at (length s) (readOf f) in
     let no : (r : Refusal) (o : ℕ) → at ≤ o → o < length s → P (refused r o) = λ r o a b. (a, b) in
-    found-has s at P no tt (λ a b i. kind-has at (length s) P no (payloadAt s at) _ i _ (λ l. tt) (λ l. tt) (λ l. tt) (λ l. tt))
+    found-has s at P no tt (λ a b i. kind-has at (length s) P no (payloadAt s at) _ i _ (λ l. tt) (λ l. tt) (λ l. tt) (λ l. tt) (λ l. tt))
 
 pub names-byte : (s : List ℕ) (at : ℕ) (q : Refusal) (o : ℕ) → read.Refused q o ≡ readAt s at → (at ≤ o) × (o < length s)
 names-byte s at q o e = subst (Names at (length s)) (sym e) (read-names s at)

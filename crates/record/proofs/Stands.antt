@@ -5,7 +5,7 @@ use mathlib.Core.List.{List}
 use lib.ListN.{length}
 use Rattle.sheet.specs.declared.Refusal.{Refusal}
 use Rattle.sheet.proofs.Figures.{Sound, cell-in, axes-in}
-use Rattle.record.specs.Layout.{Row, wordAt, kindPlace, lineRow, circleRow, ellipseRow, curveRow}
+use Rattle.record.specs.Layout.{Row, wordAt, kindPlace, lineRow, circleRow, ellipseRow, curveRow, cubicRow}
 use Rattle.record.specs.Reading.{Found, refused, valuesFrom, payloadAt, readOf, readAt}
 use Rattle.record.specs.declared.types.Record.{Record}
 use Rattle.record.specs.declared.types.Read.{Read}
@@ -45,6 +45,14 @@ module _ (p : List ℕ) where
       let p2 = p1 .1 .1 in
       (cell-in _ _ (l .1 .0) (l .1 .1 .0), cell-in _ _ (p1 .0) (p1 .1 .0), cell-in _ _ (p2 .0) (p2 .1 .0), p2 .1 .1 .0)
 
+  cubic-sound : RowSound cubicRow p
+  unfolding LimitedFrom valuesFrom cubicRow
+  cubic-sound l =
+      let p1 = l .1 .1 .1 in
+      let p2 = p1 .1 .1 in
+      let p3 = p2 .1 .1 in
+      (cell-in _ _ (l .1 .0) (l .1 .1 .0), cell-in _ _ (p1 .0) (p1 .1 .0), cell-in _ _ (p2 .0) (p2 .1 .0), cell-in _ _ (p3 .0) (p3 .1 .0), p3 .1 .1 .0)
+
 module _ (s : List ℕ) (at : ℕ) where
   abbrev IfRecord : Read → Type 0
   IfRecord (read.Record r) = Stands s at r
@@ -67,7 +75,8 @@ module _ (s : List ℕ) (at : ℕ) where
       (made lineRow (line-sound p))
       (made circleRow (circle-sound p))
       (made ellipseRow (ellipse-sound p))
-      (made curveRow (curve-sound p)))
+      (made curveRow (curve-sound p))
+      (made cubicRow (cubic-sound p)))
 
   pub stands : (r : Record) → read.Record r ≡ readAt s at → Stands s at r
   stands r e = subst IfRecord (sym e) if-record

@@ -1,7 +1,7 @@
 -- What only the inner functions promise each other.
 use Prim.Native.Nat.{ℕ, _+_}
 use mathlib.Core.List.{List}
-use mathlib.Core.Bool.{cond}
+use mathlib.Core.Bool.{cond, _&&_}
 use lib.IntN.{ℤ}
 use lib.ListN.{getD}
 use Rattle.sheet.specs.Sheet as sheet
@@ -11,6 +11,7 @@ use Rattle.record.specs.Layout.{coordinate, wordAt, valueAt}
 use Rattle.record.specs.Reading.{axisAt}
 use Rattle.record.specs.declared.CellField.{CellField}
 use Rattle.record.specs.declared.NumberField.{NumberField}
+use Rattle.record.specs.declared.ThreeField.{ThreeField}
 use Rattle.record.specs.declared.types.Read.{Read}
 use Rattle.record.specs.declared.types.Read.the-variants as read
 
@@ -23,6 +24,20 @@ abbrev pub cellField : List ℕ → ℕ → CellField
 cellField p k =
     let c = sheet.cell (valueAt coordinate p k) (valueAt coordinate p (k + 2)) in
     record { cell = c; sound = sheet.inLimits c; bad = firstBad (c .x) k (k + 2) }
+
+-- the first three control points of a payload, each tested as a cell
+abbrev pub threeField : List ℕ → ThreeField
+threeField p =
+    let a = cellField p 1 in
+    let b = cellField p 5 in
+    let c = cellField p 9 in
+    record {
+      p0 = a .cell;
+      p1 = b .cell;
+      p2 = c .cell;
+      sound = a .sound && (b .sound && c .sound);
+      bad = cond (a .sound) (cond (b .sound) (c .bad) (b .bad)) (a .bad);
+    }
 
 -- the semi-axis at a place, beside the other at another, and s at a place
 abbrev pub axisField : List ℕ → ℕ → ℕ → NumberField

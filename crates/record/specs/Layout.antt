@@ -1,4 +1,4 @@
--- Document 01, "Record file": the table of kinds, and how the fields of a payload are held.
+-- Document 01, "Record file", with K13 of document 02: the table of kinds, and how the fields of a payload are held.
 use Prim.Native.Nat.{ℕ, _+_, _*_}
 use mathlib.Core.List.{List, [], _∷_}
 use mathlib.Core.Bool.{cond}
@@ -7,7 +7,7 @@ use lib.IntN.{ℤ, pos, _-ℤ_}
 use lib.ListN.{getD}
 use Rattle.sheet.specs.Figure.{cellIn, numberIn}
 use Rattle.sheet.specs.declared.Figure.{Figure}
-use Rattle.sheet.specs.declared.Figure.the-variants.{Line, Circle, Ellipse, Curve}
+use Rattle.sheet.specs.declared.Figure.the-variants.{Line, Circle, Ellipse, Curve, Cubic}
 
 -- 2 bytes, little-endian
 abbrev pub wordAt : List ℕ → ℕ → ℕ
@@ -85,6 +85,11 @@ curveRow =
     rowOf 4 16 (ink ∷ coordinate ∷ coordinate ∷ coordinate ∷ coordinate ∷ coordinate ∷ coordinate ∷ pieces ∷ [])
     (λ v. Curve (cellIn v 1) (cellIn v 3) (cellIn v 5) (numberIn v 7))
 
+unfoldable pub cubicRow : Row
+cubicRow =
+    rowOf 5 20 (ink ∷ coordinate ∷ coordinate ∷ coordinate ∷ coordinate ∷ coordinate ∷ coordinate ∷ coordinate ∷ coordinate ∷ pieces ∷ [])
+    (λ v. Cubic (cellIn v 1) (cellIn v 3) (cellIn v 5) (cellIn v 7) (numberIn v 9))
+
 -- the table
 unfoldable pub table : List Row
-table = lineRow ∷ circleRow ∷ ellipseRow ∷ curveRow ∷ []
+table = lineRow ∷ circleRow ∷ ellipseRow ∷ curveRow ∷ cubicRow ∷ []

@@ -8,13 +8,14 @@ use sheet::Reply;
 pub use types::Read;
 pub use types::Record;
 ghost use mathlib.Core.Path.{_≡_};
+ghost use mathlib.Core.Bool.{cond};
 ghost use Prim.Native.Nat.{_+_, _*_, _<_};
 ghost use lib.ListN.{length};
 ghost use Rattle.sheet.specs.Reply.{told};
-ghost use Rattle.record.specs.Layout.{wordAt, signed, payloadPlace, lineRow, circleRow, ellipseRow, curveRow, table};
+ghost use Rattle.record.specs.Layout.{wordAt, signed, payloadPlace, lineRow, circleRow, ellipseRow, curveRow, cubicRow, table};
 ghost use Rattle.record.specs.Reading.{rowFound, kindFound, readOf, readAt, readAnswer, toldRead};
 ghost use Rattle.record.specs.File.{fileAnswer};
-ghost use Rattle.record.specs.Inner.{firstBad, cellField, axisField, splitField, closedBy};
+ghost use Rattle.record.specs.Inner.{firstBad, cellField, threeField, axisField, splitField, closedBy};
 
 // A byte, widened.
 fn wide(x: u8) -> u32
@@ -57,10 +58,25 @@ struct CellField {
     bad: usize,
 }
 
+// The first three control points of a payload, whether all are within the limits, and the place of the first coordinate that is not.
+struct ThreeField {
+    p0: Cell,
+    p1: Cell,
+    p2: Cell,
+    sound: bool,
+    bad: usize,
+}
+
 // A number of a payload, and whether it is within its limits.
 struct NumberField {
     number: u32,
     sound: bool,
+}
+
+fn chosen(first: bool, a: usize, b: usize) -> usize
+    ensures { λ r. ⌜ r ≡ cond first a b ⌝ }
+{
+    if first { a } else { b }
 }
 
 // The place of x where x is outside the limits, else of y.
@@ -86,6 +102,26 @@ fn cell_at(payload: &[u8], place: usize) -> CellField
         cell,
         sound: sheet::in_limits(cell),
         bad: first_bad(x, place, after),
+    }
+}
+
+// The first three control points, which stand after the ink.
+fn three_at(payload: &[u8]) -> ThreeField
+    requires { ⌜ 12 < length (now payload) ⌝ }
+    ensures { λ r. ⌜ r ≡ threeField (now (payload .entry)) ⌝ }
+{
+    let a = cell_at(payload, 1);
+    let b = cell_at(payload, 5);
+    let c = cell_at(payload, 9);
+    let p0 = a.cell;
+    let p1 = b.cell;
+    let p2 = c.cell;
+    ThreeField {
+        p0,
+        p1,
+        p2,
+        sound: a.sound & (b.sound & c.sound),
+        bad: chosen(a.sound, chosen(b.sound, c.bad, b.bad), a.bad),
     }
 }
 
@@ -205,30 +241,55 @@ fn curve(payload: &[u8], at: usize, next: usize) -> Read
         return Read::Refused(Refusal::Length, at);
     }
     let start = at + 4;
-    let a = cell_at(payload, 1);
-    if !a.sound {
-        return Read::Refused(Refusal::Coordinate, start + a.bad);
-    }
-    let b = cell_at(payload, 5);
-    if !b.sound {
-        return Read::Refused(Refusal::Coordinate, start + b.bad);
-    }
-    let c = cell_at(payload, 9);
-    if !c.sound {
-        return Read::Refused(Refusal::Coordinate, start + c.bad);
+    let three = three_at(payload);
+    if !three.sound {
+        return Read::Refused(Refusal::Coordinate, start + three.bad);
     }
     let s = split_at(payload, 13);
     if !s.sound {
         return Read::Refused(Refusal::Pieces, start + 13);
     }
-    let p0 = a.cell;
-    let p1 = b.cell;
-    let p2 = c.cell;
+    let p0 = three.p0;
+    let p1 = three.p1;
+    let p2 = three.p2;
     Read::Record(Record {
         offset: at,
         next,
         ink: payload[0],
         figure: Figure::Curve(p0, p1, p2, s.number),
+    })
+}
+
+// Kind 5: ink, P0, P1, P2, P3, s.
+fn cubic(payload: &[u8], at: usize, next: usize) -> Read
+    requires { ⌜ next ≡ payloadPlace at + length (now payload) ⌝ }
+    ensures { λ r. ⌜ r ≡ readOf (rowFound cubicRow (now (payload .entry)) at next) ⌝ }
+{
+    if payload.len() != 18 {
+        return Read::Refused(Refusal::Length, at);
+    }
+    let start = at + 4;
+    let three = three_at(payload);
+    if !three.sound {
+        return Read::Refused(Refusal::Coordinate, start + three.bad);
+    }
+    let d = cell_at(payload, 13);
+    if !d.sound {
+        return Read::Refused(Refusal::Coordinate, start + d.bad);
+    }
+    let s = split_at(payload, 17);
+    if !s.sound {
+        return Read::Refused(Refusal::Pieces, start + 17);
+    }
+    let p0 = three.p0;
+    let p1 = three.p1;
+    let p2 = three.p2;
+    let p3 = d.cell;
+    Read::Record(Record {
+        offset: at,
+        next,
+        ink: payload[0],
+        figure: Figure::Cubic(p0, p1, p2, p3, s.number),
     })
 }
 
@@ -242,6 +303,7 @@ fn decode(kind: u32, payload: &[u8], at: usize, next: usize) -> Read
         2 => circle(payload, at, next),
         3 => ellipse(payload, at, next),
         4 => curve(payload, at, next),
+        5 => cubic(payload, at, next),
         _ => Read::Refused(Refusal::Kind, at + 2),
     }
 }

@@ -29,6 +29,8 @@ pub enum Figure {
     Ellipse(Cell, u32, u32),
     // P0, P1, P2 and s
     Curve(Cell, Cell, Cell, u32),
+    // P0, P1, P2, P3 and s
+    Cubic(Cell, Cell, Cell, Cell, u32),
 }
 
 // The size of a sheet, and its pitch: how many bytes after a cell the one below it stands.

@@ -6,10 +6,10 @@ use native.Mathlib.Omega.{arith}
 use denote.Ref.{now}
 use mir.Syntax.{w64}
 use mir.Val.{bits}
-use borrow.Author.Needs.{needs}
 use Rattle.laws.proofs.Tests.{no, yes}
 use Rattle.record.specs.Layout.{curveRow}
-use Rattle.record.proofs.Rows.{bad-most, other-length, curve-found}
+use Rattle.record.proofs.Rows.{three-bad-most, other-length, curve-found}
+use borrow.Author.Needs.{needs}
 use Rattle.record.proofs.curve.Statement.{statement}
 use Rattle.record.proofs.curve.Tie as tie
 
@@ -18,17 +18,11 @@ ends : (c : tie.Else1) → c .before .before .args .at + 18 < 2 ^ bits w64
 ends c = let start = c .before .before in omega (arith, start .pre, start .fits .next .fits, c .if1 .left)
 
 -- what each test showed
-p0-in : (c : tie.Else2) → c .before .before .cell-at .result .sound ≡ true
-p0-in c = yes (c .before .before .cell-at .result .sound) _ refl (c .if2 .left)
+three-in : (c : tie.Else2) → c .before .before .three-at .result .sound ≡ true
+three-in c = yes (c .before .before .three-at .result .sound) _ refl (c .if2 .left)
 
-p1-in : (c : tie.Else3) → c .before .before .cell-at2 .result .sound ≡ true
-p1-in c = yes (c .before .before .cell-at2 .result .sound) _ refl (c .if3 .left)
-
-p2-in : (c : tie.Else4) → c .before .before .cell-at3 .result .sound ≡ true
-p2-in c = yes (c .before .before .cell-at3 .result .sound) _ refl (c .if4 .left)
-
-s-in : (c : tie.Else5) → c .before .before .split-at .result .sound ≡ true
-s-in c = yes (c .before .before .split-at .result .sound) _ refl (c .if5 .left)
+s-in : (c : tie.Else3) → c .before .before .split-at .result .sound ≡ true
+s-in c = yes (c .before .before .split-at .result .sound) _ refl (c .if3 .left)
 
 returns : tie.Need-returns
 unfolding curveRow
@@ -37,88 +31,43 @@ returns c = other-length _ _ _ curveRow (λ e. c .if1 .taken (omega arith))
 add-start : tie.Need-add-start
 add-start c = search needs
 
-cell-at-requires : tie.Need-cell-at-requires
-cell-at-requires c κs = search needs
+three-at-requires : tie.Need-three-at-requires
+three-at-requires c κs = search needs
 
-add-t16 : tie.Need-add-t16
-add-t16 c =
-    let p0 = c .before .before .before in
-    let payload = now (p0 .before .before .before .args .payload) in
-    omega (arith, ends (p0 .before), bad-most payload 1 (p0 .cell-at .result) (p0 .cell-at .ensures))
+add-t14 : tie.Need-add-t14
+add-t14 c =
+    let three = c .before .before .before in
+    let payload = now (three .before .before .before .args .payload) in
+    omega (arith, ends (three .before), three-bad-most payload (three .three-at .result) (three .three-at .ensures))
 
 returns-2 : tie.Need-returns-2
 returns-2 c =
-    let p0 = c .before .before .before in
-    rw (curve-found _ _ _ _ _ _ _ (p0 .before .if1 .left) (p0 .cell-at .ensures) refl refl refl)
-    (simp (no (p0 .cell-at .result .sound) _ refl (c .before .if2 .taken)))
-
-cell-at-requires-2 : tie.Need-cell-at-requires-2
-cell-at-requires-2 c κs = search needs
-
-add-t18 : tie.Need-add-t18
-add-t18 c =
-    let p1 = c .before .before .before in
-    let p0 = p1 .before .before .before in
-    let payload = now (p0 .before .before .before .args .payload) in
-    omega (arith, ends (p0 .before), bad-most payload 5 (p1 .cell-at2 .result) (p1 .cell-at2 .ensures))
-
-returns-3 : tie.Need-returns-3
-returns-3 c =
-    let p1 = c .before .before .before in
-    let p0 = p1 .before .before .before in
-    rw (curve-found _ _ _ _ _ _ _ (p0 .before .if1 .left) (p0 .cell-at .ensures) (p1 .cell-at2 .ensures) refl refl)
-    (simp (p0-in (p1 .before), no (p1 .cell-at2 .result .sound) _ refl (c .before .if3 .taken)))
-
-cell-at-requires-3 : tie.Need-cell-at-requires-3
-cell-at-requires-3 c κs = search needs
-
-add-t20 : tie.Need-add-t20
-add-t20 c =
-    let p2 = c .before .before .before in
-    let p1 = p2 .before .before .before in
-    let p0 = p1 .before .before .before in
-    let payload = now (p0 .before .before .before .args .payload) in
-    omega (arith, ends (p0 .before), bad-most payload 9 (p2 .cell-at3 .result) (p2 .cell-at3 .ensures))
-
-returns-4 : tie.Need-returns-4
-returns-4 c =
-    let p2 = c .before .before .before in
-    let p1 = p2 .before .before .before in
-    let p0 = p1 .before .before .before in
-    rw (curve-found _ _ _ _ _ _ _ (p0 .before .if1 .left) (p0 .cell-at .ensures) (p1 .cell-at2 .ensures) (p2 .cell-at3 .ensures) refl)
-    (simp (p0-in (p1 .before), p1-in (p2 .before), no (p2 .cell-at3 .result .sound) _ refl (c .before .if4 .taken)))
+    let three = c .before .before .before in
+    rw (curve-found _ _ _ _ _ (three .before .if1 .left) (three .three-at .ensures) refl)
+    (simp (no (three .three-at .result .sound) _ refl (c .before .if2 .taken)))
 
 split-at-requires : tie.Need-split-at-requires
 split-at-requires c κs = search needs
 
-add-t22 : tie.Need-add-t22
-add-t22 c =
+add-t16 : tie.Need-add-t16
+add-t16 c = omega (arith, ends (c .before .before .before .before .before .before))
+
+returns-3 : tie.Need-returns-3
+returns-3 c =
     let s = c .before .before in
-    let p2 = s .before .before .before in
-    let p1 = p2 .before .before .before in
-    let p0 = p1 .before .before .before in
-    omega (arith, ends (p0 .before))
+    let three = s .before .before .before in
+    rw (curve-found _ _ _ _ _ (three .before .if1 .left) (three .three-at .ensures) (s .split-at .ensures))
+    (simp (three-in (s .before), no (s .split-at .result .sound) _ refl (c .if3 .taken)))
 
-returns-5 : tie.Need-returns-5
-returns-5 c =
-    let s = c .before .before in
-    let p2 = s .before .before .before in
-    let p1 = p2 .before .before .before in
-    let p0 = p1 .before .before .before in
-    rw (curve-found _ _ _ _ _ _ _ (p0 .before .if1 .left) (p0 .cell-at .ensures) (p1 .cell-at2 .ensures) (p2 .cell-at3 .ensures) (s .split-at .ensures))
-    (simp (p0-in (p1 .before), p1-in (p2 .before), p2-in (s .before), no (s .split-at .result .sound) _ refl (c .if5 .taken)))
+shared-slice-read-t18 : tie.Need-shared-slice-read-t18
+shared-slice-read-t18 c = search needs
 
-shared-slice-read-t24 : tie.Need-shared-slice-read-t24
-shared-slice-read-t24 c = search needs
-
-returns-6 : tie.Need-returns-6
-returns-6 c =
+returns-4 : tie.Need-returns-4
+returns-4 c =
     let s = c .before .before .before .before .before .before in
-    let p2 = s .before .before .before in
-    let p1 = p2 .before .before .before in
-    let p0 = p1 .before .before .before in
-    rw (curve-found _ _ _ _ _ _ _ (p0 .before .if1 .left) (p0 .cell-at .ensures) (p1 .cell-at2 .ensures) (p2 .cell-at3 .ensures) (s .split-at .ensures))
-    (simp (p0-in (p1 .before), p1-in (p2 .before), p2-in (s .before), s-in (c .before .before .before .before)))
+    let three = s .before .before .before in
+    rw (curve-found _ _ _ _ _ (three .before .if1 .left) (three .three-at .ensures) (s .split-at .ensures))
+    (simp (three-in (s .before), s-in (c .before .before .before .before)))
 
 pub curve-spec : {M : Type 1} → statement M
 curve-spec =
@@ -126,17 +75,11 @@ curve-spec =
     (tie.spec
     returns
     add-start
-    cell-at-requires
-    add-t16
+    three-at-requires
+    add-t14
     returns-2
-    cell-at-requires-2
-    add-t18
-    returns-3
-    cell-at-requires-3
-    add-t20
-    returns-4
     split-at-requires
-    add-t22
-    returns-5
-    shared-slice-read-t24
-    returns-6)
+    add-t16
+    returns-3
+    shared-slice-read-t18
+    returns-4)

@@ -30,6 +30,12 @@ enum-known-figure-4 c = search needs
 draw-curve-requires : tie.Need-draw-curve-requires
 draw-curve-requires c κs = search needs
 
+enum-known-figure-5 : tie.Need-enum-known-figure-5
+enum-known-figure-5 c = search needs
+
+draw-cubic-requires : tie.Need-draw-cubic-requires
+draw-cubic-requires c κs = search needs
+
 same-length : tie.Need-same-length
 same-length c = search needs
 
@@ -70,6 +76,16 @@ returns-4 c =
     let a = chosen .before .before .before .args in
     draws-as _ _ _ _ _ (ap (figureDrawing (a .shape) (a .ink)) (sym (chosen .figure4 .given .1))) (called .draw-curve .ensures)
 
+same-length-5 : tie.Need-same-length-5
+same-length-5 c = search needs
+
+returns-5 : tie.Need-returns-5
+returns-5 c =
+    let called = c .before .before in
+    let chosen = called .before .before .before in
+    let a = chosen .before .before .before .args in
+    draws-as _ _ _ _ _ (ap (figureDrawing (a .shape) (a .ink)) (sym (chosen .figure5 .given .1))) (called .draw-cubic .ensures)
+
 pub draw-figure-spec : {M : Type 1} → statement M
 draw-figure-spec =
     tie.close
@@ -82,6 +98,8 @@ draw-figure-spec =
     draw-ellipse-requires-2
     enum-known-figure-4
     draw-curve-requires
+    enum-known-figure-5
+    draw-cubic-requires
     same-length
     returns
     same-length-2
@@ -89,4 +107,6 @@ draw-figure-spec =
     same-length-3
     returns-3
     same-length-4
-    returns-4)
+    returns-4
+    same-length-5
+    returns-5)
