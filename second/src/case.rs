@@ -63,6 +63,7 @@ impl Job {
             Job::Cells(_, _, Cells::Circle(..)) => "circle",
             Job::Cells(_, _, Cells::Ellipse(..)) => "ellipse",
             Job::Cells(_, _, Cells::Curve(..)) => "curve",
+            Job::Cells(_, _, Cells::Cubic(..)) => "cubic",
             Job::Metres(_, _, _, Metres::Line(_)) => "line_metres",
             Job::Metres(_, _, _, Metres::Circle(_)) => "circle_metres",
             Job::Metres(_, _, _, Metres::Ellipse(_)) => "ellipse_metres",
@@ -112,6 +113,7 @@ impl fmt::Display for Case {
                     Cells::Circle(centre, r) => write!(to, "{} {r}", words(centre)),
                     Cells::Ellipse(centre, a, b) => write!(to, "{} {a} {b}", words(centre)),
                     Cells::Curve(points, s) => write!(to, "{} {s}", words(points)),
+                    Cells::Cubic(points, s) => write!(to, "{} {s}", words(points)),
                 }
             }
             Job::Metres(size, ink, survey, figure) => {
@@ -204,6 +206,7 @@ impl FromStr for Case {
             "circle" => Cells::Circle(numbers(words)?, number(words)?),
             "ellipse" => Cells::Ellipse(numbers(words)?, number(words)?, number(words)?),
             "curve" => Cells::Curve(numbers(words)?, number(words)?),
+            "cubic" => Cells::Cubic(numbers(words)?, number(words)?),
             _ => return Err(format!("no export is named {name}")),
         };
         Ok(Case { held, job: Job::Cells(size, ink, figure) })

@@ -8,7 +8,7 @@ use crate::random::Random;
 impl Case {
     pub fn figure(seed: u64) -> Case {
         let mut random = Random(seed);
-        let job = match random.number() % 9 {
+        let job = match random.number() % 10 {
             0 => list(&mut random),
             kind => {
                 let size = size(&mut random);
@@ -18,6 +18,7 @@ impl Case {
                     3 => Job::Cells(size, ink, circle(&mut random, size)),
                     4 => Job::Cells(size, ink, ellipse(&mut random, size)),
                     5 => Job::Cells(size, ink, curve(&mut random, size)),
+                    6 => Job::Cells(size, ink, cubic(&mut random, size)),
                     _ => in_metres(&mut random, size, ink, kind),
                 }
             }
@@ -247,8 +248,16 @@ fn flat_ellipse(random: &mut Random, size: Size) -> Cells {
 }
 
 pub fn curve(random: &mut Random, size: Size) -> Cells {
-    let [[x0, y0], [x1, y1], [x2, y2]] = [(); 3].map(|()| point(random, size));
-    Cells::Curve([x0, y0, x1, y1, x2, y2], pieces(random))
+    Cells::Curve(control(random, size), pieces(random))
+}
+
+pub fn cubic(random: &mut Random, size: Size) -> Cells {
+    Cells::Cubic(control(random, size), pieces(random))
+}
+
+/// Control points, x then y of each.
+fn control<const N: usize>(random: &mut Random, size: Size) -> [i32; N] {
+    std::array::from_fn(|i| coordinate(random, [size.width, size.height][i % 2]))
 }
 
 fn pieces(random: &mut Random) -> u32 {
@@ -307,8 +316,8 @@ fn in_metres(random: &mut Random, size: Size, ink: u8, kind: u64) -> Job {
     };
     let survey = Survey { east, north, size: cell_size };
     let figure = match kind {
-        6 => line(random, size),
-        7 => circle(random, size),
+        7 => line(random, size),
+        8 => circle(random, size),
         _ => ellipse(random, size),
     };
     let mut metres = |origin: f64, cell: i64| position(random, origin, cell_size, cell);
@@ -324,7 +333,7 @@ fn in_metres(random: &mut Random, size: Size, ink: u8, kind: u64) -> Job {
             let [x, y] = [metres(east, x.into()), metres(north, y.into())];
             Metres::Ellipse([x, y, metres(0.0, a.into()), metres(0.0, b.into())])
         }
-        Cells::Curve(..) => unreachable!("no curve is in metres"),
+        Cells::Curve(..) | Cells::Cubic(..) => unreachable!("no curve is in metres"),
     };
     Job::Metres(size, ink, survey, figure)
 }

@@ -1,6 +1,6 @@
 //! Record files made at random: sound ones, ones damaged at any byte, and ones with fields outside their limits.
 use crate::case::Size;
-use crate::chance::{circle, curve, ellipse, line};
+use crate::chance::{circle, cubic, curve, ellipse, line};
 use crate::native::Cells;
 use crate::random::Random;
 
@@ -19,29 +19,30 @@ pub fn file(random: &mut Random, size: Size) -> Vec<u8> {
 }
 
 pub fn record(random: &mut Random, size: Size, tame: bool, bytes: &mut Vec<u8>) {
-    let figure = match random.number() % 4 {
+    let figure = match random.number() % 5 {
         // of long files, most records are to be drawn
         _ if tame => sound(random),
         0 => line(random, size),
         1 => circle(random, size),
         2 => ellipse(random, size),
-        _ => curve(random, size),
+        3 => curve(random, size),
+        _ => cubic(random, size),
     };
     write(random, figure, bytes);
 }
 
 /// A small figure that is within the limits.
 fn sound(random: &mut Random) -> Cells {
-    let mut near = || random.within(-99, 99) as i32;
-    let [x, y] = [near(), near()];
-    let points = [x, y, near(), near(), near(), near()];
+    let points @ [x, y, x1, y1, x2, y2, ..] = [(); 8].map(|()| random.within(-99, 99) as i32);
     let zeros = random.once_in(12);
     let [a, b] = [(); 2].map(|()| if zeros { 0 } else { random.within(1, 99) as u32 });
-    match random.number() % 4 {
-        0 => Cells::Line([x, y, points[2], points[3]]),
+    let s = random.within(0, 6) as u32;
+    match random.number() % 5 {
+        0 => Cells::Line([x, y, x1, y1]),
         1 => Cells::Circle([x, y], a),
         2 => Cells::Ellipse([x, y], a, b),
-        _ => Cells::Curve(points, random.within(0, 6) as u32),
+        3 => Cells::Curve([x, y, x1, y1, x2, y2], s),
+        _ => Cells::Cubic(points, s),
     }
 }
 
@@ -51,6 +52,7 @@ fn write(random: &mut Random, figure: Cells, bytes: &mut Vec<u8>) {
         Cells::Circle([x, y], r) => (2, vec![x.into(), y.into(), r.into()], None),
         Cells::Ellipse([x, y], a, b) => (3, vec![x.into(), y.into(), a.into(), b.into()], None),
         Cells::Curve(points, s) => (4, points.map(i64::from).to_vec(), Some(s)),
+        Cells::Cubic(points, s) => (5, points.map(i64::from).to_vec(), Some(s)),
     };
     let length = 3 + 2 * numbers.len() + usize::from(s.is_some());
     bytes.extend((length as u16).to_le_bytes());
@@ -68,8 +70,8 @@ pub fn bad_record(random: &mut Random, bytes: &mut Vec<u8>) {
     let fields = (bytes.len() - start - 4) / 2;
     for _ in 0..random.within(1, 3) {
         let (place, spoilt) = match random.number() % 8 {
-            0 => (0, random.one_of(&[0, 1, 2, 10, 12, 300])),
-            1 => (2, random.one_of(&[0, 5, 6, 256, 257, 65_535])),
+            0 => (0, random.one_of(&[0, 1, 2, 10, 12, 16, 20, 300])),
+            1 => (2, random.one_of(&[0, 4, 5, 6, 256, 257, 65_535])),
             // outside the limits of every field after the ink, or at the edge of some
             _ => {
                 let spoilt = random.one_of(&[16_391, 20_007, 32_767, 32_775, 49_151, 16_384, 0, 16_383, 49_152]);
@@ -89,13 +91,13 @@ pub fn damage(random: &mut Random, bytes: &mut Vec<u8>) {
         2 if at < bytes.len() => drop(bytes.remove(at)),
         3 => bytes.push(random.number() as u8),
         // small numbers, as lengths and kinds are
-        4 | 5 if at < bytes.len() => bytes[at] = random.within(0, 17) as u8,
+        4 | 5 if at < bytes.len() => bytes[at] = random.within(0, 21) as u8,
         6 if at < bytes.len() => bytes[at] ^= 1 << random.within(0, 7),
         7 if random.once_in(4) => {
             bytes.resize(random.within(0, 40) as usize, 0);
             random.fill(bytes);
         }
         // a record without a payload
-        _ => bytes.extend([random.within(0, 3) as u8, 0, random.within(0, 5) as u8, 0]),
+        _ => bytes.extend([random.within(0, 3) as u8, 0, random.within(0, 6) as u8, 0]),
     }
 }

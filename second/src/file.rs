@@ -23,6 +23,7 @@ fn record(rules: &Rules, rest: &[u8]) -> Result<(u8, Figure, usize), Bad> {
         1 | 3 => 11,
         2 => 9,
         4 => 16,
+        5 => 20,
         _ => return Err((9, KIND)),
     };
     if length != needed {
@@ -36,7 +37,8 @@ fn record(rules: &Rules, rest: &[u8]) -> Result<(u8, Figure, usize), Bad> {
         1 => Figure::Line(point(0), point(2)),
         2 => Figure::Circle(point(0), unsigned(2)),
         3 => Figure::Ellipse(point(0), unsigned(2), unsigned(3)),
-        _ => Figure::Curve([point(0), point(2), point(4)], body[15] as i64),
+        4 => Figure::Curve([point(0), point(2), point(4)], body[15] as i64),
+        _ => Figure::Cubic([point(0), point(2), point(4), point(6)], body[19] as i64),
     };
     match (rules.refusal)(&figure) {
         // every field before the last has 2 bytes
@@ -102,7 +104,7 @@ mod tests {
     fn with(kind: u8, numbers: &[u16]) -> Vec<u8> {
         let mut bytes = vec![0, 0, kind, 0, 1];
         bytes.extend(numbers.iter().flat_map(|number| number.to_le_bytes()));
-        bytes.truncate(bytes.len() - usize::from(kind == 4));
+        bytes.truncate(bytes.len() - usize::from(kind >= 4));
         bytes[0] = bytes.len() as u8 - 2;
         bytes
     }
@@ -117,14 +119,26 @@ mod tests {
     }
 
     #[test]
+    fn a_curve_and_a_cubic_have_lengths_of_their_own() {
+        assert_eq!(reply(&with(5, &[0, 0, 2, 4, 4, 0, 6])), (10, Some(0)));
+        assert_eq!(reply(&with(4, &[0, 0, 2, 4, 4, 0, 6, 2, 6])), (10, Some(0)));
+    }
+
+    #[test]
     fn fields_of_each_kind() {
         // numbers that are drawn; then for each field the offset, and the number that refuses one outside its limits
-        let kinds: [(u8, &[u16], &[(u64, u32)]); 5] = [
+        type Kind = (u8, &'static [u16], &'static [(u64, u32)]);
+        let kinds: [Kind; 6] = [
             (1, &[0, 0, 2, 1], &[(5, 2), (7, 2), (9, 2), (11, 2)]),
             (2, &[1, 1, 3], &[(5, 2), (7, 2), (9, 3)]),
             (3, &[1, 1, 3, 2], &[(5, 2), (7, 2), (9, 3), (11, 3)]),
             (3, &[1, 1, 0, 0], &[(5, 2), (7, 2), (9, 3)]),
             (4, &[0, 0, 2, 4, 4, 0, 6], &[(5, 2), (7, 2), (9, 2), (11, 2), (13, 2), (15, 2), (17, 4)]),
+            (
+                5,
+                &[0, 0, 2, 4, 4, 0, 6, 2, 6],
+                &[(5, 2), (7, 2), (9, 2), (11, 2), (13, 2), (15, 2), (17, 2), (19, 2), (21, 4)],
+            ),
         ];
         for (kind, sound, fields) in kinds {
             assert_eq!(reply(&with(kind, sound)), (0, Some(1)));

@@ -10,6 +10,8 @@ mod declared {
                           x: i32, y: i32, a: u32, b: u32) -> u32;
         pub fn pw_curve(sheet: *mut u8, len: usize, width: u32, height: u32, pitch: u32, ink: u8,
                         x0: i32, y0: i32, x1: i32, y1: i32, x2: i32, y2: i32, s: u32) -> u32;
+        pub fn pw_cubic(sheet: *mut u8, len: usize, width: u32, height: u32, pitch: u32, ink: u8, x0: i32, y0: i32,
+                        x1: i32, y1: i32, x2: i32, y2: i32, x3: i32, y3: i32, s: u32) -> u32;
         pub fn pw_fill(sheet: *mut u8, len: usize, width: u32, height: u32, pitch: u32, x: i32, y: i32,
                        boundary: u8, territory: u8, work: *mut u32, places: usize, cells: *mut u32) -> u32;
         pub fn pw_list(xs: *mut i32, nx: usize, ys: *mut i32, ny: usize,
@@ -41,6 +43,7 @@ pub enum Cells {
     Circle([i32; 2], u32),
     Ellipse([i32; 2], u32, u32),
     Curve([i32; 6], u32),
+    Cubic([i32; 8], u32),
 }
 
 /// Where a fill starts, the ink that it does not enter and the ink that it sets, with the types of the header.
@@ -70,6 +73,9 @@ pub fn draw(lent: Lent, ink: u8, figure: Cells, cells: &mut u32) -> u32 {
             Cells::Ellipse([x, y], a, b) => declared::pw_ellipse(sheet, len, w, h, pitch, ink, x, y, a, b),
             Cells::Curve([x0, y0, x1, y1, x2, y2], s) => {
                 declared::pw_curve(sheet, len, w, h, pitch, ink, x0, y0, x1, y1, x2, y2, s)
+            }
+            Cells::Cubic([x0, y0, x1, y1, x2, y2, x3, y3], s) => {
+                declared::pw_cubic(sheet, len, w, h, pitch, ink, x0, y0, x1, y1, x2, y2, x3, y3, s)
             }
         }
     }

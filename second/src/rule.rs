@@ -16,6 +16,7 @@ pub enum Figure {
     Circle(Cell, i64),
     Ellipse(Cell, i64, i64),
     Curve([Cell; 3], i64),
+    Cubic([Cell; 4], i64),
 }
 
 /// A number of the table, and the value that goes with it; where there is none, a lent value stays as it was.
@@ -61,6 +62,8 @@ pub struct Rules {
     pub on_circle: fn(i64, Cell) -> bool,
     /// Whether an ellipse of semi-axes a, b has the cell (x, y) from its centre.
     pub on_ellipse: fn(i64, i64, Cell) -> bool,
+    /// N for the ith of a cubic's points 0 to n, from one coordinate of the control points.
+    pub cubic: fn(i64, i64, [i64; 4]) -> i64,
     /// The whole number that a fraction with a positive denominator becomes.
     pub floor: fn(i64, i64) -> i64,
     /// The cell of a float.
@@ -91,6 +94,7 @@ impl Rules {
             place,
             on_circle,
             on_ellipse,
+            cubic,
             floor: i64::div_euclid,
             cell: crate::metres::cell,
             asked,
@@ -124,23 +128,25 @@ impl Rules {
             Figure::Ellipse(centre, a, b) => {
                 self.ink_ring(sheet, ink, centre, (a, b), |from_centre| (self.on_ellipse)(a, b, from_centre));
             }
-            Figure::Curve(points, s) => {
-                for pair in self.joined(points, s).windows(2) {
-                    self.ink_line(sheet, ink, pair[0], pair[1]);
-                }
-            }
+            Figure::Curve(points, s) => self.ink_lines(sheet, ink, &self.joined(points, s, quadratic)),
+            Figure::Cubic(points, s) => self.ink_lines(sheet, ink, &self.joined(points, s, self.cubic)),
         }
         None
     }
 
-    /// The points 0 to n of a curve.
-    fn joined(&self, [p0, p1, p2]: [Cell; 3], s: i64) -> Vec<Cell> {
-        let n = 1 << s;
-        let at = |i: i64, c0: i64, c1: i64, c2: i64| {
-            let weighed = (n - i) * (n - i) * c0 + 2 * i * (n - i) * c1 + i * i * c2;
-            (self.floor)(2 * weighed + n * n, 2 * n * n)
-        };
-        (0..=n).map(|i| (at(i, p0.0, p1.0, p2.0), at(i, p0.1, p1.1, p2.1))).collect()
+    /// The points 0 to n of a curve of so many control points, whose N is over n to the power of one less.
+    fn joined<const P: usize>(&self, points: [Cell; P], s: i64, weighed: fn(i64, i64, [i64; P]) -> i64) -> Vec<Cell> {
+        let n: i64 = 1 << s;
+        let over = n.pow(P as u32 - 1);
+        let at = |i, coordinates| (self.floor)(2 * weighed(n, i, coordinates) + over, 2 * over);
+        (0..=n).map(|i| (at(i, points.map(|(x, _)| x)), at(i, points.map(|(_, y)| y)))).collect()
+    }
+
+    /// Inks the lines between each point and the next.
+    fn ink_lines(&self, sheet: &mut Sheet, ink: u8, points: &[Cell]) {
+        for pair in points.windows(2) {
+            self.ink_line(sheet, ink, pair[0], pair[1]);
+        }
     }
 
     fn ink_line(&self, sheet: &mut Sheet, ink: u8, from: Cell, to: Cell) -> u64 {
@@ -203,14 +209,16 @@ pub fn refusal(figure: &Figure) -> Option<Bad> {
 pub fn bad_fields(figure: &Figure) -> Vec<Bad> {
     let coordinate = |c: i64| (!within(c), 2);
     let axis = |n: i64, other: i64| (!(0..=MOST).contains(&n) || (n == 0 && other != 0), 3);
+    let curve = |points: &[Cell], s: i64| -> Vec<(bool, u32)> {
+        let coordinates = points.iter().flat_map(|&(x, y)| [x, y]).map(coordinate);
+        coordinates.chain([(s > 6, 4)]).collect()
+    };
     let fields = match *figure {
         Figure::Line((x0, y0), (x1, y1)) => [x0, y0, x1, y1].map(coordinate).to_vec(),
         Figure::Circle((x, y), r) => vec![coordinate(x), coordinate(y), axis(r, r)],
         Figure::Ellipse((x, y), a, b) => vec![coordinate(x), coordinate(y), axis(a, b), axis(b, a)],
-        Figure::Curve(points, s) => {
-            let coordinates = points.iter().flat_map(|&(x, y)| [x, y]).map(coordinate);
-            coordinates.chain([(s > 6, 4)]).collect()
-        }
+        Figure::Curve(points, s) => curve(&points, s),
+        Figure::Cubic(points, s) => curve(&points, s),
     };
     let numbered = fields.into_iter().enumerate();
     numbered.filter_map(|(field, (bad, number))| bad.then_some((number, field))).collect()
@@ -280,6 +288,15 @@ pub fn in_column(a: i64, b: i64, from_centre: Cell) -> bool {
     let edge = |odd: i64| a * a * odd * odd;
     let height = 4 * b * b * (a * a - x * x);
     x <= a && y <= b && height < edge(2 * y + 1) && (y == 0 || edge(2 * y - 1) <= height)
+}
+
+/// N for one coordinate of the ith point, by the formula of each degree.
+fn quadratic(n: i64, i: i64, [c0, c1, c2]: [i64; 3]) -> i64 {
+    (n - i).pow(2) * c0 + 2 * i * (n - i) * c1 + i.pow(2) * c2
+}
+
+pub fn cubic(n: i64, i: i64, [c0, c1, c2, c3]: [i64; 4]) -> i64 {
+    (n - i).pow(3) * c0 + 3 * i * (n - i).pow(2) * c1 + 3 * i.pow(2) * (n - i) * c2 + i.pow(3) * c3
 }
 
 #[cfg(test)]
@@ -364,11 +381,60 @@ mod tests {
 
     #[test]
     fn curves_of_the_document() {
-        let rules = Rules::document();
-        assert_eq!(rules.joined([(0, 0), (2, 4), (4, 0)], 1), [(0, 0), (2, 2), (4, 0)]);
-        assert_eq!(rules.joined([(-1, 0), (-1, -1), (0, 0)], 1), [(-1, 0), (-1, 0), (0, 0)]);
+        let joined = |points, s| Rules::document().joined(points, s, quadratic);
+        assert_eq!(joined([(0, 0), (2, 4), (4, 0)], 1), [(0, 0), (2, 2), (4, 0)]);
+        assert_eq!(joined([(-1, 0), (-1, -1), (0, 0)], 1), [(-1, 0), (-1, 0), (0, 0)]);
         assert_eq!(refusal(&Figure::Curve([(0, 0); 3], 7)), Some((4, 6)));
         assert_eq!(refusal(&Figure::Curve([(0, 0); 3], 6)), None);
         assert_eq!(refusal(&Figure::Line((0, 0), (16_384, 0))), Some((2, 2)));
+    }
+
+    fn cubic_points(points: [Cell; 4], s: i64) -> Vec<Cell> {
+        Rules::document().joined(points, s, cubic)
+    }
+
+    #[test]
+    fn cubics_by_hand() {
+        assert_eq!(cubic_points([(1, 2), (9, 9), (-9, 9), (3, 4)], 0), [(1, 2), (3, 4)]);
+        assert_eq!(cubic_points([(0, 0), (2, 4), (4, 4), (6, 0)], 1), [(0, 0), (3, 3), (6, 0)]);
+        // in the middle -0.875 becomes -1, and -0.5 becomes 0
+        assert_eq!(cubic_points([(-1, 0), (-1, 0), (-1, -1), (0, -1)], 1), [(-1, 0), (-1, 0), (0, -1)]);
+        // beside the middle 4.5 becomes 5, and -4.5 becomes -4; 1.25 becomes 1, and 6.75 becomes 7
+        let above = [(0, 0), (1, 5), (4, 6), (7, 5), (8, 0)];
+        let below = [(0, 0), (1, -4), (4, -6), (7, -4), (8, 0)];
+        assert_eq!(cubic_points([(0, 0), (0, 8), (8, 8), (8, 0)], 2), above);
+        assert_eq!(cubic_points([(0, 0), (0, -8), (8, -8), (8, 0)], 2), below);
+        // 0.6875, 2.5 and 5.0625 in x, and the same backwards
+        assert_eq!(cubic_points([(0, 0), (0, 8), (4, 8), (8, 0)], 2), [(0, 0), (1, 5), (3, 6), (5, 5), (8, 0)]);
+        assert_eq!(cubic_points([(8, 0), (4, 8), (0, 8), (0, 0)], 2), [(8, 0), (5, 5), (3, 6), (1, 5), (0, 0)]);
+        assert_eq!(refusal(&Figure::Cubic([(0, 0); 4], 7)), Some((4, 8)));
+        assert_eq!(refusal(&Figure::Cubic([(0, 0); 4], 6)), None);
+        assert_eq!(refusal(&Figure::Cubic([(0, 0), (0, 0), (0, 16_384), (0, 0)], 7)), Some((2, 5)));
+    }
+
+    /// For the control values -h, 5h, -5h and h source document 001 prints the polynomial 32ht³ - 48ht² + 18ht - h.
+    #[test]
+    fn a_cubic_of_source_document_001() {
+        assert_eq!(cubic_points([(-3, 0), (15, 4), (-15, 8), (3, 12)], 2), [(-3, 0), (3, 3), (0, 6), (-3, 9), (3, 12)]);
+        for (h, s) in (0..=3_276).flat_map(|h| (0..=6).map(move |s| (h, s))) {
+            let (n, over) = (1 << s, 1 << (3 * s));
+            let printed = |i: i64| 32 * h * i.pow(3) - 48 * h * i.pow(2) * n + 18 * h * i * n.pow(2) - h * over;
+            let nearest = |i: i64| (2 * printed(i) + over).div_euclid(2 * over);
+            let found = cubic_points([(-h, 0), (5 * h, 0), (-5 * h, 0), (h, 0)], s);
+            assert!((0..=n).all(|i| found[i as usize].0 == nearest(i)), "h = {h}, s = {s}");
+        }
+    }
+
+    #[test]
+    fn cubics_between_the_corners_of_the_limits() {
+        let limit = |bits: i64| if bits % 2 == 0 { LEAST } else { MOST };
+        for (four, s) in (0..256).flat_map(|four| (0..=6).map(move |s| (four, s))) {
+            let [p0, p1, p2, p3] = [four, four >> 2, four >> 4, four >> 6].map(|bits| (limit(bits), limit(bits >> 1)));
+            let found = cubic_points([p0, p1, p2, p3], s);
+            assert_eq!((found[0], found[1 << s]), (p0, p3));
+            assert!(found.iter().all(|&(x, y)| within(x) && within(y)));
+            let backwards: Vec<Cell> = cubic_points([p3, p2, p1, p0], s).into_iter().rev().collect();
+            assert_eq!(backwards, found);
+        }
     }
 }

@@ -4,7 +4,7 @@ use crate::guard::{Against, Guarded};
 use crate::native::{self, Cells, Lent};
 use crate::pen::{self, Call};
 use crate::random::Random;
-use crate::rule::{Figure, Reply, Rules, Shape, Sheet};
+use crate::rule::{Cell, Figure, Reply, Rules, Shape, Sheet};
 use std::fmt::Display;
 
 /// The room for everything that a case lends to the library.
@@ -178,16 +178,19 @@ impl Outcome {
 pub fn widened(figure: &Cells) -> Figure {
     match *figure {
         Cells::Line(ends) => {
-            let [x0, y0, x1, y1] = ends.map(i64::from);
-            Figure::Line((x0, y0), (x1, y1))
+            let [from, to] = points(&ends);
+            Figure::Line(from, to)
         }
         Cells::Circle([x, y], r) => Figure::Circle((x.into(), y.into()), r.into()),
         Cells::Ellipse([x, y], a, b) => Figure::Ellipse((x.into(), y.into()), a.into(), b.into()),
-        Cells::Curve(points, s) => {
-            let [x0, y0, x1, y1, x2, y2] = points.map(i64::from);
-            Figure::Curve([(x0, y0), (x1, y1), (x2, y2)], s.into())
-        }
+        Cells::Curve(control, s) => Figure::Curve(points(&control), s.into()),
+        Cells::Cubic(control, s) => Figure::Cubic(points(&control), s.into()),
     }
+}
+
+/// Points of which each has its x and then its y among the numbers.
+fn points<const P: usize>(numbers: &[i32]) -> [Cell; P] {
+    std::array::from_fn(|i| (numbers[2 * i].into(), numbers[2 * i + 1].into()))
 }
 
 #[cfg(test)]

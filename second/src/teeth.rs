@@ -1,7 +1,7 @@
 //! Second programs that are wrong on purpose: a comparison that is worth anything catches each.
 use crate::rule::{
-    asked, bad_fields, cells_from, in_column, line_cells, no_sheet, on_circle, on_ellipse, place, refusal, Bad, Cell,
-    Figure, Rules, Shape, Sheet, Told,
+    asked, bad_fields, cells_from, cubic, in_column, line_cells, no_sheet, on_circle, on_ellipse, place, refusal, Bad,
+    Cell, Figure, Rules, Shape, Sheet, Told,
 };
 use crate::teeth_fill::wrong_fills;
 
@@ -29,6 +29,10 @@ fn wrong_figures() -> Vec<(&'static str, Rules)> {
         ("a circle above 8,191 is a cell too large", Rules { on_circle: large_circle, ..right }),
         ("an ellipse above 8,191 is a cell too wide", Rules { on_ellipse: large_ellipse, ..right }),
         ("a curve's division drops the fraction", Rules { floor: |n, d| n / d, ..right }),
+        ("a cubic has 1 - t³ for (1 - t)³", Rules { cubic: cube_within, ..right }),
+        ("a cubic's inner control points are exchanged", Rules { cubic: exchanged, ..right }),
+        ("a cubic's half is that of n²", Rules { cubic: half_of_square, ..right }),
+        ("a cubic is weighed in 32 bits", Rules { cubic: |n, i, points| cubic(n, i, points) as i32 as i64, ..right }),
         ("a cell in metres drops the fraction", Rules { cell: dropped, ..right }),
         ("a cell in metres is the nearest", Rules { cell: nearest, ..right }),
         ("a coordinate of 16,384 is taken for 16,383", Rules { refusal: one_more, ..right }),
@@ -40,6 +44,7 @@ fn wrong_figures() -> Vec<(&'static str, Rules)> {
         ("an ellipse with both axes 0 has no cell", Rules { on_ellipse: from_one, ..right }),
         ("a circle of radius 0 is refused", Rules { refusal: no_point, ..right }),
         ("a curve's middle control point may be outside the limits", Rules { refusal: middle_free, ..right }),
+        ("a cubic's third control point may be outside the limits", Rules { refusal: third_free, ..right }),
         ("s = 7 is drawn", Rules { refusal: seventh, ..right }),
         ("a file is drawn as it is read", Rules { reads_first: false, ..right }),
         ("a slice of another length is refused as a bad size", Rules { no_sheet: one_number, ..right }),
@@ -122,6 +127,19 @@ fn large_ellipse(a: i64, b: i64, cell: Cell) -> bool {
     on_ellipse(a + i64::from(a > 8191), b, cell)
 }
 
+fn cube_within(n: i64, i: i64, points: [i64; 4]) -> i64 {
+    cubic(n, i, points) + (n.pow(3) - i.pow(3) - (n - i).pow(3)) * points[0]
+}
+
+fn exchanged(n: i64, i: i64, [c0, c1, c2, c3]: [i64; 4]) -> i64 {
+    cubic(n, i, [c0, c2, c1, c3])
+}
+
+/// What is rounded, 2N + n³, becomes 2N + n².
+fn half_of_square(n: i64, i: i64, points: [i64; 4]) -> i64 {
+    cubic(n, i, points) - (n.pow(3) - n.pow(2)) / 2
+}
+
 fn dropped(q: f64) -> Option<i64> {
     crate::metres::cell(q.trunc())
 }
@@ -179,9 +197,21 @@ fn from_one(a: i64, b: i64, (x, y): Cell) -> bool {
     in_column(a, b, (x, y)) || in_column(b, a, (y, x))
 }
 
+/// Within the limits for every number of 16 bits; larger ones stay refused, as their lines would not end in good time.
+fn halved((x, y): Cell) -> Cell {
+    (x / 2, y / 2)
+}
+
 fn middle_free(figure: &Figure) -> Option<Bad> {
     match *figure {
-        Figure::Curve([p0, _, p2], s) => refusal(&Figure::Curve([p0, p0, p2], s)),
+        Figure::Curve([p0, p1, p2], s) => refusal(&Figure::Curve([p0, halved(p1), p2], s)),
+        _ => refusal(figure),
+    }
+}
+
+fn third_free(figure: &Figure) -> Option<Bad> {
+    match *figure {
+        Figure::Cubic([p0, p1, p2, p3], s) => refusal(&Figure::Cubic([p0, p1, halved(p2), p3], s)),
         _ => refusal(figure),
     }
 }
@@ -189,6 +219,7 @@ fn middle_free(figure: &Figure) -> Option<Bad> {
 fn seventh(figure: &Figure) -> Option<Bad> {
     match *figure {
         Figure::Curve(points, 7) => refusal(&Figure::Curve(points, 6)),
+        Figure::Cubic(points, 7) => refusal(&Figure::Cubic(points, 6)),
         _ => refusal(figure),
     }
 }
