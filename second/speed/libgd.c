@@ -22,6 +22,7 @@ int libgd(struct sheet *s, const struct figure *f) {
     case CIRCLE: gdImageEllipse(image, f->x0, f->y0, 2 * (int)f->a, 2 * (int)f->a, 1); return 1;
     case ELLIPSE: gdImageEllipse(image, f->x0, f->y0, 2 * (int)f->a, 2 * (int)f->b, 1); return 1;
     case CURVE:
+    case CUBIC:
     case LISTING:
     case FILL: return 0; /* a fill begins on a fresh copy of the sheet, which the image is not */
     }

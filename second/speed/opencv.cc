@@ -10,7 +10,8 @@ int opencv(struct sheet *s, const struct figure *f) {
     case LINE: cv::line(sheet, {f->x0, f->y0}, {f->x1, f->y1}, ink); return 1;
     case CIRCLE: cv::circle(sheet, {f->x0, f->y0}, (int)f->a, ink); return 1;
     case ELLIPSE: cv::ellipse(sheet, {f->x0, f->y0}, {(int)f->a, (int)f->b}, 0, 0, 360, ink); return 1;
-    case CURVE: {
+    case CURVE:
+    case CUBIC: {
         cv::Point points[65];
         const int pieces = 1 << f->s;
         for (int i = 0; i <= pieces; i++)

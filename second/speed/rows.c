@@ -138,6 +138,7 @@ int by_rows(struct sheet *s, const struct figure *f) {
     case ELLIPSE: ring(s, f->x0, f->y0, (int32_t)f->a, (int32_t)f->b); return 1;
     case LINE:
     case CURVE:
+    case CUBIC:
     case LISTING:
     case FILL: return 0;
     }

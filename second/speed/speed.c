@@ -37,6 +37,9 @@ static int pistonwool(struct sheet *s, const struct figure *f) {
     case CURVE:
         reply = pw_curve(s->bytes, len, side, side, pitch, 1, f->x0, f->y0, f->x1, f->y1, f->x2, f->y2, f->s);
         break;
+    case CUBIC:
+        reply = pw_cubic(s->bytes, len, side, side, pitch, 1, f->x0, f->y0, f->x1, f->y1, f->x2, f->y2, f->x3, f->y3, f->s);
+        break;
     case LISTING: reply = pw_list(s->xs, s->places, s->ys, s->places, f->x0, f->y0, f->x1, f->y1, &cells); break;
     case FILL:
         reply = pw_fill(s->bytes, len, side, side, pitch, f->x0, f->y0, 1, 2, s->work, (size_t)side * side, &cells);
@@ -49,7 +52,7 @@ static int pistonwool(struct sheet *s, const struct figure *f) {
     return 1;
 }
 
-static uint8_t file[RECORDS * 18];
+static uint8_t file[RECORDS * 22];
 static size_t file_length;
 
 static void byte(uint32_t value) {
@@ -62,25 +65,20 @@ static void pair(int32_t value) {
 }
 
 static void record(const struct figure *f) {
-    static const uint8_t lengths[] = {[LINE] = 11, [CIRCLE] = 9, [ELLIPSE] = 11, [CURVE] = 16};
+    static const uint8_t lengths[] = {[LINE] = 11, [CIRCLE] = 9, [ELLIPSE] = 11, [CURVE] = 16, [CUBIC] = 20};
+    static const uint8_t points[] = {[LINE] = 2, [CIRCLE] = 1, [ELLIPSE] = 1, [CURVE] = 3, [CUBIC] = 4};
+    const int32_t coordinates[] = {f->x0, f->y0, f->x1, f->y1, f->x2, f->y2, f->x3, f->y3};
     pair(lengths[f->kind]);
     pair(f->kind);
     byte(1);
-    pair(f->x0);
-    pair(f->y0);
+    for (int i = 0; i < 2 * points[f->kind]; i++)
+        pair(coordinates[i]);
     if (f->kind == CIRCLE || f->kind == ELLIPSE)
         pair((int32_t)f->a);
     if (f->kind == ELLIPSE)
         pair((int32_t)f->b);
-    if (f->kind == LINE || f->kind == CURVE) {
-        pair(f->x1);
-        pair(f->y1);
-    }
-    if (f->kind == CURVE) {
-        pair(f->x2);
-        pair(f->y2);
+    if (f->kind == CURVE || f->kind == CUBIC)
         byte(f->s);
-    }
 }
 
 /* the whole file at once, whatever the figure */
@@ -109,6 +107,8 @@ static struct figure some(enum kind kind, int32_t side) {
     f.y1 = between(0, last);
     f.x2 = between(0, last);
     f.y2 = between(0, last);
+    f.x3 = between(0, last);
+    f.y3 = between(0, last);
     return f;
 }
 
@@ -239,8 +239,8 @@ static void same_rings(struct sheet *s, const struct figure *rings, size_t count
 
 /* figures of one kind */
 static void kind_row(enum kind kind, struct sheet *s, struct way *ways, size_t n) {
-    static const char *const names[] = {
-        [LINE] = "lines", [CIRCLE] = "circles", [ELLIPSE] = "ellipses", [CURVE] = "curves", [LISTING] = "listing"};
+    static const char *const names[] = {[LINE] = "lines", [CIRCLE] = "circles", [ELLIPSE] = "ellipses",
+        [CURVE] = "curves", [CUBIC] = "cubics", [LISTING] = "listing"};
     size_t count = 0, cells = 0;
     while (count < MOST && cells < CELLS) {
         figures[count] = some(kind, (int32_t)s->side);
@@ -315,7 +315,7 @@ static void rows(struct sheet *s, struct way *ways, size_t n) {
     size_t cells = 0;
     file_length = 0;
     for (size_t i = 0; i < RECORDS; i++) {
-        figures[i] = some((enum kind)between(LINE, CURVE), (int32_t)s->side);
+        figures[i] = some((enum kind)between(LINE, CUBIC), (int32_t)s->side);
         cells += cells_of(s, &figures[i]);
         record(&figures[i]);
     }

@@ -9,14 +9,14 @@
 extern "C" {
 #endif
 
-enum kind { LINE = 1, CIRCLE, ELLIPSE, CURVE, LISTING, FILL };
+enum kind { LINE = 1, CIRCLE, ELLIPSE, CURVE, CUBIC, LISTING, FILL };
 
 /* what a fill meets: nothing, walls with a gap at alternating ends, lines, cells shut at random, a walled square */
 enum ground { OPEN, SERPENTINE, LINES, NOISE, SQUARE };
 
 struct figure {
     enum kind kind;
-    int32_t x0, y0, x1, y1, x2, y2;
+    int32_t x0, y0, x1, y1, x2, y2, x3, y3;
     uint32_t a, b, s;
 };
 
@@ -50,7 +50,7 @@ draw opencv, libgd;
 void libgd_begin(uint32_t side);
 void libgd_end(void);
 
-/* the ith of the curve's 2^s + 1 joined points */
+/* the ith of the 2^s + 1 joined points of a curve or a cubic */
 void joined(const struct figure *curve, uint32_t i, int32_t *x, int32_t *y);
 
 #ifdef __cplusplus

@@ -137,15 +137,29 @@ static void ellipse(struct sheet *s, int32_t cx, int32_t cy, int64_t a, int64_t 
     }
 }
 
-static int32_t blend(int32_t p0, int32_t p1, int32_t p2, int32_t i, uint32_t s) {
-    int32_t n = 1 << s, j = n - i;
-    int64_t sum = (int64_t)j * j * p0 + (int64_t)2 * i * j * p1 + (int64_t)i * i * p2;
-    return (int32_t)((2 * sum + (int64_t)n * n) >> (2 * s + 1));
+/* the whole number nearest to sum / 2^bits, a half upwards */
+static int32_t rounded(int64_t sum, uint32_t bits) {
+    return (int32_t)((2 * sum + ((int64_t)1 << bits)) >> (bits + 1));
+}
+
+static int32_t blend(int32_t p0, int32_t p1, int32_t p2, int64_t i, uint32_t s) {
+    int64_t j = (1 << s) - i;
+    return rounded(j * j * p0 + 2 * i * j * p1 + i * i * p2, 2 * s);
+}
+
+static int32_t blend_cubic(int32_t p0, int32_t p1, int32_t p2, int32_t p3, int64_t i, uint32_t s) {
+    int64_t j = (1 << s) - i;
+    return rounded(j * j * j * p0 + 3 * i * j * j * p1 + 3 * i * i * j * p2 + i * i * i * p3, 3 * s);
 }
 
 void joined(const struct figure *c, uint32_t i, int32_t *x, int32_t *y) {
-    *x = blend(c->x0, c->x1, c->x2, (int32_t)i, c->s);
-    *y = blend(c->y0, c->y1, c->y2, (int32_t)i, c->s);
+    if (c->kind == CUBIC) {
+        *x = blend_cubic(c->x0, c->x1, c->x2, c->x3, i, c->s);
+        *y = blend_cubic(c->y0, c->y1, c->y2, c->y3, i, c->s);
+    } else {
+        *x = blend(c->x0, c->x1, c->x2, i, c->s);
+        *y = blend(c->y0, c->y1, c->y2, i, c->s);
+    }
 }
 
 static void curve(struct sheet *s, const struct figure *c) {
@@ -208,7 +222,8 @@ int walk(struct sheet *s, const struct figure *f) {
     case LINE: line(s, f->x0, f->y0, f->x1, f->y1); break;
     case CIRCLE: circle(s, f->x0, f->y0, (int32_t)f->a); break;
     case ELLIPSE: ellipse(s, f->x0, f->y0, f->a, f->b); break;
-    case CURVE: curve(s, f); break;
+    case CURVE:
+    case CUBIC: curve(s, f); break;
     case LISTING: list(s, f->x0, f->y0, f->x1, f->y1); break;
     case FILL: fill(s, f->x0, f->y0); break;
     }
