@@ -1,4 +1,4 @@
-/* examples.c: the checked examples of document 01 that are not starred, and those of rings with axes of 0, each by its words through the library; the last line counts. */
+/* examples.c: the checked examples of document 01 that are not starred, those of rings with axes of 0 and of cubics, each by its words through the library; the last line counts. */
 #include <stdio.h>
 #include <string.h>
 
@@ -49,6 +49,49 @@ static uint32_t file(const char *bytes, size_t n) {
     return pw_file(sheet, sizeof sheet, WIDTH, HEIGHT, WIDTH, (const uint8_t *)bytes, n, &value);
 }
 
+/* a cubic on a sheet of zeros, by its control points; the same with these reversed */
+static uint32_t cubic(const int32_t *p, uint32_t s) {
+    clear();
+    return pw_cubic(sheet, sizeof sheet, WIDTH, HEIGHT, WIDTH, 1, p[0], p[1], p[2], p[3], p[4], p[5], p[6], p[7], s);
+}
+
+static uint32_t backwards(const int32_t *p, uint32_t s) {
+    int32_t back[] = {p[6], p[7], p[4], p[5], p[2], p[3], p[0], p[1]};
+    return cubic(back, s);
+}
+
+/* document 02, K13 */
+static void cubics(void) {
+    static const int32_t arch[] = {0, 0, 0, 4, 4, 4, 4, 0};
+    same("a cubic of two pieces is drawn", cubic(arch, 1), PW_DONE);
+    same("it has 7 cells, by way of (2,3)", set() == 7 && at(0, 0) && at(1, 1) && at(1, 2) && at(2, 3) && at(3, 2) && at(3, 1) && at(4, 0), 1);
+    same("an s of 7 is refused with 4", cubic(arch, 7), PW_PIECES);
+    same("and nothing set", set(), 0);
+
+    /* 32ht^3 - 48ht^2 + 18ht - h, as source document 001 prints it, for h = 3 and moved by 3: at t = 0, 1/4, .. it is 0, 6, 3, 0, 6 */
+    static const int32_t printed[] = {0, 0, 18, 2, -12, 4, 6, 6};
+    same("the cubic that source document 001 prints is drawn", cubic(printed, 2), PW_DONE);
+    same("its points are where it says", at(0, 0) && at(6, 2) && at(3, 3) && at(0, 5) && at(6, 6), 1);
+
+    /* the limits' corners, round in a bow and crosswise, and each coordinate one too far */
+    static const int32_t corners[][8] = {{-16384, -16384, 16383, -16384, 16383, 16383, -16384, 16383},
+        {-16384, -16384, 16383, 16383, -16384, 16383, 16383, -16384}, {7, 3, -16384, 16383, 16383, 16383, 9, 3}};
+    uint8_t once[sizeof sheet];
+    for (size_t c = 0; c < sizeof corners / sizeof *corners; c++)
+        for (uint32_t s = 0; s <= 6; s++) {
+            same("control points at the limits' corners are drawn", cubic(corners[c], s), PW_DONE);
+            memcpy(once, sheet, sizeof sheet);
+            same("and backwards", backwards(corners[c], s), PW_DONE);
+            same("with the same cells", memcmp(once, sheet, sizeof sheet), 0);
+        }
+    for (int i = 0; i < 8; i++) {
+        int32_t beyond[8];
+        memcpy(beyond, arch, sizeof beyond);
+        beyond[i] = i % 2 ? 16384 : -16385;
+        same("a coordinate one beyond the limits is refused with 2, also beside an s of 7", cubic(beyond, 7), PW_COORDINATE);
+    }
+}
+
 int main(void) {
     uint32_t cells;
 
@@ -94,6 +137,8 @@ int main(void) {
     same("kind 9 with length 11 and its 11 bytes: 9", file("\x0b\x00\x09\x00\x01\x00\x00\x00\x00\x02\x00\x01\x00", 13), PW_KIND);
     same("a lone byte: 8", file("\x0b", 1), PW_SHORT);
     same("a lone byte: at offset 0", (long long)value, 0);
+
+    cubics();
 
     printf("%d passed, %d failed\n", passed, failed);
     return failed != 0;
