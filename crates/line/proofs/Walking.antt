@@ -15,17 +15,17 @@ use Rattle.sheet.proofs.Cells.{place-below}
 use Rattle.sheet.proofs.Count.{cells-as}
 use Rattle.sheet.proofs.Paint.{paint-length}
 use Rattle.line.specs.Inner.Course.{spotAt, Runs, firstCells}
-use Rattle.line.specs.Inner.Fixed.{gradient, tally}
+use Rattle.line.specs.Inner.Fixed.{Climbs}
 use Rattle.line.specs.Inner.Span.{On, Spans, byteOf, aloneBy, bothBy}
 use Rattle.line.specs.declared.Course.{Course}
-use Rattle.line.proofs.Fixed.{part-next, rise-next}
+use Rattle.line.proofs.Fixed.{climbs-on, rise-next}
 use Rattle.line.proofs.Hops.{byte-hop}
 use Rattle.line.proofs.Marked.{same-cells, paint-more, paint-before, paint-after, cells-range}
 
-pub record Walking (k : Shape) (ink : ℕ) (c : Course) (first past : ℕ) (sheet₀ sheet : List ℕ) (part at n : ℕ) : Type 0 where
+pub record Walking (k : Shape) (ink : ℕ) (c : Course) (first past f : ℕ) (sheet₀ sheet : List ℕ) (part at n : ℕ) : Type 0 where
   pub from : first ≤ n
   pub low : n ≤ past
-  pub part-is : part ≡ tally (c .long) (c .short) n % 2 ^ 32
+  pub climbs : Climbs (c .long) (c .short) n part f
   pub at-is : n < past → at ≡ byteOf k (spotAt c n)
   pub inked : sheet ≡ paint k ink (firstCells c n) sheet₀
   pub kept : length sheet ≡ bytes k
@@ -36,20 +36,20 @@ unfolding place
 on-below k w c n o =
     place-below k (spotAt c n .x - 65536) (spotAt c n .y - 65536) (omega (arith, o .left, o .right)) (omega (arith, o .top, o .bottom))
 
-module _ (k : Shape) (ink : ℕ) (c : Course) (first past : ℕ) (r : Runs c) (range : Spans k c first past) (more : first < past) where
-  pub begins : (sheet : List ℕ) (part at : ℕ) → Sheet k sheet → part ≡ tally (c .long) (c .short) first % 2 ^ 32 → at ≡ byteOf k (spotAt c first)
-      → Walking k ink c first past sheet sheet part at first
-  begins sheet part at z e f =
+module _ (k : Shape) (ink : ℕ) (c : Course) (first past f : ℕ) (range : Spans k c first past) (more : first < past) where
+  pub begins : (sheet : List ℕ) (part at : ℕ) → Sheet k sheet → Climbs (c .long) (c .short) first part f → at ≡ byteOf k (spotAt c first)
+      → Walking k ink c first past f sheet sheet part at first
+  begins sheet part at z e h =
       record {
         from = omega arith;
         low = omega arith;
-        part-is = e;
-        at-is = λ p. f;
+        climbs = e;
+        at-is = λ p. h;
         inked = paint-before k c ink sheet first (λ i u. range .before i (omega (arith, range .low)) u);
         kept = z .area;
       }
 
-  pub ends : (sheet₀ sheet : List ℕ) (part at n : ℕ) → Walking k ink c first past sheet₀ sheet part at n → past ≤ n
+  pub ends : (sheet₀ sheet : List ℕ) (part at n : ℕ) → Walking k ink c first past f sheet₀ sheet part at n → past ≤ n
       → sheet ≡ paint k ink (firstCells c (c .long + 1)) sheet₀
   ends sheet₀ sheet part at n g p =
       let e : n ≡ past = omega (arith, g .low) in
@@ -57,17 +57,16 @@ module _ (k : Shape) (ink : ℕ) (c : Course) (first past : ℕ) (r : Runs c) (r
       ∙ ap (λ (j : ℕ). paint k ink (firstCells c j) sheet₀) e
       ∙ paint-after k c ink sheet₀ past (c .long + 1) (range .low) (λ i u v. range .after i (omega arith) u)
 
-  module _ (sheet₀ sheet : List ℕ) (part at n : ℕ) (g : Walking k ink c first past sheet₀ sheet part at n) (lt : n < past) where
+  module _ (sheet₀ sheet : List ℕ) (part at n : ℕ) (g : Walking k ink c first past f sheet₀ sheet part at n) (lt : n < past) where
     pub at-below : Disjoint k → at < length sheet
     at-below w = omega (arith, g .at-is lt, g .kept, on-below k w c n (range .on n (g .from) lt))
 
-    pub turn : (disjoint : Disjoint k) (far : k .pitch ≤ 8192) (high : k .height ≤ 4096) (f by next at′ : ℕ)
-        → f ≡ gradient (c .long) (c .short)
-        → next ≡ (part + f) % 2 ^ 32
+    pub turn : (disjoint : Disjoint k) (far : k .pitch ≤ 8192) (high : k .height ≤ 4096) (by next at′ : ℕ)
+        → next ≡ (part + f) % 4294967296
         → by ≡ cond (ltb next part) (bothBy (c .right) (k .pitch)) (aloneBy (c .right) (c .steep) (k .pitch))
         → at′ ≡ (at + by) % 2 ^ 64
-        → Walking k ink c first past sheet₀ (set sheet at ink) next at′ (n + 1)
-    turn disjoint far high f by next at′ hf hn hb ha =
+        → Walking k ink c first past f sheet₀ (set sheet at ink) next at′ (n + 1)
+    turn disjoint far high by next at′ hn hb ha =
         let o = range .on n (g .from) lt in
         let m : set sheet at ink ≡ paint k ink (firstCells c (n + 1)) sheet₀ =
         (λ i. set (g .inked i) (g .at-is lt i) ink) ∙ paint-more k c disjoint ink sheet₀ n o in
@@ -75,9 +74,9 @@ module _ (k : Shape) (ink : ℕ) (c : Course) (first past : ℕ) (r : Runs c) (r
         record {
           from = omega arith;
           low = omega arith;
-          part-is = part-next (c .long) (c .short) n part f next (g .part-is) hf hn;
+          climbs = climbs-on (c .long) (c .short) n part f next (g .climbs) hn;
           at-is = λ p.
-              let e = rise-next (c .long) (c .short) (r .shorter) (r .limit) n part f next (omega (arith, range .low)) (g .part-is) hf hn in
+              let e = rise-next (c .long) (c .short) n part f next (g .climbs) (omega (arith, range .low)) hn in
               ha ∙ (λ i. (g .at-is lt i + hb i) % 2 ^ 64) ∙ byte-hop k c (ltb next part) n disjoint far high e o (range .on (n + 1) (omega arith) p);
           inked = m;
           kept = ap length m ∙ paint-length k ink (firstCells c (n + 1)) sheet₀ ∙ sym (ap length (g .inked) ∙ paint-length k ink (firstCells c n) sheet₀) ∙ g .kept;

@@ -10,7 +10,7 @@ ghost use Rattle.sheet.specs.Inner.{Sheet, Disjoint, unmovedCell};
 ghost use Rattle.line.specs.Rule.{rise};
 ghost use Rattle.line.specs.Draw.{lineDrawing};
 ghost use Rattle.line.specs.Inner.Course.{spotAt, Runs, firstCells};
-ghost use Rattle.line.specs.Inner.Fixed.{gradient, tally, gone};
+ghost use Rattle.line.specs.Inner.Fixed.{gone, Climbs};
 ghost use Rattle.line.specs.Inner.Span.{enters, leaves, FirstAt, Enters, Leaves, On, Spans, byteOf, aloneBy, bothBy};
 use crate::Course;
 use crate::chosen;
@@ -192,7 +192,35 @@ fn hop(shape: Shape, course: Course, at: usize, across: bool) -> usize
     std::num::wrapping_add_usize(at, chosen_step(across, two, one))
 }
 
-// Inks the cells first, .., past - 1 of a line, which are those on the sheet, by its gradient, from the part and the byte of the first.
+// What a walk has in hand, in parts of 2^32, and what each turn adds; where the sum wraps, the step is along both extents.
+struct Slope {
+    start: u32,
+    by: u32,
+}
+
+// The slope of a line from its first cell.
+fn slope_of(l: u32, s: u32) -> Slope
+    requires { ⌜ (s ≤ l) × (l ≤ 32767) ⌝ }
+    ensures { λ r. ⌜ Climbs l s 0 (r .start) (r .by) ⌝ }
+{
+    Slope {
+        start: 2147483648 + 2 * l,
+        by: gradient_of(l, s),
+    }
+}
+
+// The same for a short line: parts of 2^16 are fine enough, and take a division of 32 bits.
+fn short_slope(l: u32, s: u32) -> Slope
+    requires { ⌜ (0 < l) × (l < 128) × (s ≤ l) ⌝ }
+    ensures { λ r. ⌜ Climbs l s 0 (r .start) (r .by) ⌝ }
+{
+    Slope {
+        start: 65536 * (32768 + 2 * l),
+        by: 65536 * (s * 65535 / l),
+    }
+}
+
+// Inks the cells first, .., past - 1 of a line, which are those on the sheet, by its slope and from the byte of the first.
 fn walk(
     sheet: &mut [u8],
     shape: Shape,
@@ -200,16 +228,16 @@ fn walk(
     course: Course,
     first: u32,
     past: u32,
-    f: u32,
-    start: u32,
+    slope: Slope,
     place: usize,
 )
     requires { ⌜ Sheet shape (now sheet) × Runs course ⌝ }
-    requires { ⌜ (first < past) × Spans shape course first past × (f ≡ gradient (course .long) (course .short))
-        × (start ≡ tally (course .long) (course .short) first % 4294967296) × (place ≡ byteOf shape (spotAt course first)) ⌝ }
+    requires { ⌜ (first < past) × Spans shape course first past
+        × Climbs (course .long) (course .short) first (slope .start) (slope .by) × (place ≡ byteOf shape (spotAt course first)) ⌝ }
     ensures { λ r. ⌜ now (sheet .exit) ≡ paint shape ink (firstCells course (course .long + 1)) (now (sheet .entry)) ⌝ }
 {
-    let mut p = start;
+    let f = slope.by;
+    let mut p = slope.start;
     let mut at = place;
     let mut n = first;
     while n < past {
@@ -227,10 +255,11 @@ fn part_line(sheet: &mut [u8], shape: Shape, ink: u8, course: Course, first: u32
     requires { ⌜ (first < past) × Spans shape course first past ⌝ }
     ensures { λ r. ⌜ now (sheet .exit) ≡ paint shape ink (firstCells course (course .long + 1)) (now (sheet .entry)) ⌝ }
 {
-    let f = gradient_of(course.long, course.short);
-    let t = tally_at(course.long, f, first);
+    let by = gradient_of(course.long, course.short);
+    let t = tally_at(course.long, by, first);
     let at = byte_at(shape, course, first, whole(t));
-    walk(sheet, shape, ink, course, first, past, f, part(t), at);
+    let slope = Slope { start: part(t), by };
+    walk(sheet, shape, ink, course, first, past, slope, at);
 }
 
 // Inks a line of one cell or two: they are its ends.
@@ -244,29 +273,26 @@ fn ends(sheet: &mut [u8], shape: Shape, ink: u8, course: Course)
     sheet::ink_at(sheet, shape, ink, last);
 }
 
-// Inks a line that is wholly on the sheet; a short one needs no gradient. The first byte does not wait for the gradient.
+// Inks a line that is wholly on the sheet. The first byte does not wait for the slope.
 fn whole_line(sheet: &mut [u8], shape: Shape, ink: u8, course: Course)
     requires { ⌜ Sheet shape (now sheet) × Runs course × Spans shape course 0 (course .long + 1) ⌝ }
     ensures { λ r. ⌜ now (sheet .exit) ≡ paint shape ink (firstCells course (course .long + 1)) (now (sheet .entry)) ⌝ }
 {
     let long = course.long;
+    let short = course.short;
     if long < 2 {
         ends(sheet, shape, ink, course);
         return;
     }
-    let f = gradient_of(long, course.short);
+    let past = long + 1;
     let at = byte_at(shape, course, 0, 0);
-    walk(
-        sheet,
-        shape,
-        ink,
-        course,
-        0,
-        long + 1,
-        f,
-        2147483648 + 2 * long,
-        at,
-    );
+    if long < 128 {
+        let slope = short_slope(long, short);
+        walk(sheet, shape, ink, course, 0, past, slope, at);
+        return;
+    }
+    let slope = slope_of(long, short);
+    walk(sheet, shape, ink, course, 0, past, slope, at);
 }
 
 // Inks the cells of a line that are on the sheet; how many they are.

@@ -3,7 +3,7 @@ use Prim.Native.Nat.{ℕ, _/_, _%_, _≤_}
 use mathlib.Core.Path.{_≡_, ap, _∙_}
 use native.Mathlib.Omega.{arith}
 use Rattle.line.specs.Inner.Fixed.{tally}
-use Rattle.line.proofs.Fixed.{tally-is, tally-rise}
+use Rattle.line.proofs.Fixed.{tally-is, tally-rise, tally-climbs}
 use borrow.Author.Needs.{needs}
 use Rattle.line.proofs.draw.part_line.Statement.{statement}
 use Rattle.line.proofs.draw.part_line.Tie as tie
@@ -39,10 +39,16 @@ part-requires c κs = tt
 
 walk-requires : tie.Need-walk-requires
 walk-requires c κs =
-    let placed = c .before .before in
+    let parted = c .before in
+    let placed = parted .before in
     let told = placed .before .before in
     let start = told .before .before .before in
-    (start .pre .0, (start .pre .1 .0, start .pre .1 .1, told .before .gradient-of .ensures, c .part .ensures ∙ ap (λ (z : ℕ). z % 4294967296) (tallied told), placed .byte-at .ensures))
+    let a = start .args in
+    let r = start .pre .0 .1 in
+    let range = start .pre .1 .1 in
+    let climbs = tally-climbs (a .course .long) (a .course .short) (a .first) (r .shorter) (r .limit) (omega (arith, range .low)) in
+    let e : parted .part .result ≡ tally (a .course .long) (a .course .short) (a .first) % 4294967296 = parted .part .ensures ∙ ap (λ (z : ℕ). z % 4294967296) (tallied told) in
+    (start .pre .0, (start .pre .1 .0, range, rw (e, told .before .gradient-of .ensures) climbs, placed .byte-at .ensures))
 
 same-length : tie.Need-same-length
 same-length c = search needs

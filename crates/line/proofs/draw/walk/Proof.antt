@@ -8,17 +8,17 @@ use Rattle.line.proofs.draw.walk.Statement.{statement}
 use Rattle.line.proofs.draw.walk.Tie as tie
 
 abbrev Inv-loop : tie.InvT-loop
-Inv-loop sheet₀ shape ink course first past f start place p₀ at₀ n₀ sheet p at n = Walking shape ink course first past sheet₀ sheet p at n
+Inv-loop sheet₀ shape ink course first past place f p₀ at₀ n₀ sheet p at n = Walking shape ink course first past f sheet₀ sheet p at n
 
 abbrev μ-loop : tie.MeasureT-loop
-μ-loop sheet₀ shape ink course first past f start place p₀ at₀ n₀ sheet p at n = past - n
+μ-loop sheet₀ shape ink course first past place f p₀ at₀ n₀ sheet p at n = past - n
 
 loop-holds : tie.Need-loop-holds Inv-loop μ-loop
 loop-holds c =
     let start = c .before in
     let a = start .args in
     let p = start .pre in
-    begins (a .shape) (a .ink) (a .course) (a .first) (a .past) (p .0 .1) (p .1 .1) (p .1 .0) (now (a .sheet)) (a .start) (a .place) (p .0 .0) (p .1 .3) (p .1 .4)
+    begins (a .shape) (a .ink) (a .course) (a .first) (a .past) (a .slope .by) (p .1 .1) (p .1 .0) (now (a .sheet)) (a .slope .start) (a .place) (p .0 .0) (p .1 .2) (p .1 .3)
 
 slice-write-sheet : tie.Need-slice-write-sheet Inv-loop μ-loop
 slice-write-sheet c =
@@ -26,7 +26,7 @@ slice-write-sheet c =
     let start = c .before .before .before in
     let a = start .args in
     let p = start .pre in
-    at-below (a .shape) (a .ink) (a .course) (a .first) (a .past) (p .0 .1) (p .1 .1) (p .1 .0)
+    at-below (a .shape) (a .ink) (a .course) (a .first) (a .past) (a .slope .by) (p .1 .1) (p .1 .0)
     (now (a .sheet)) (k .sheet) (k .p) (k .at) (k .n) (k .inv) (c .loop-test .taken) (p .0 .0 .disjoint)
 
 add-n : tie.Need-add-n Inv-loop μ-loop
@@ -50,10 +50,10 @@ loop-again c =
     let start = head .before .before in
     let a = start .args in
     let p = start .pre in
-    turn (a .shape) (a .ink) (a .course) (a .first) (a .past) (p .0 .1) (p .1 .1) (p .1 .0)
+    turn (a .shape) (a .ink) (a .course) (a .first) (a .past) (a .slope .by) (p .1 .1) (p .1 .0)
     (now (a .sheet)) (k .sheet) (k .p) (k .at) (k .n) (k .inv) (c .before .before .loop-test .taken)
     (p .0 .0 .disjoint) (p .0 .0 .far) (p .0 .0 .high)
-    (a .f) _ (c .before .wrapping-add-u32 .result) (c .hop .result) (p .1 .2) (c .before .wrapping-add-u32 .ensures) refl (c .hop .ensures)
+    _ (c .before .wrapping-add-u32 .result) (c .hop .result) (c .before .wrapping-add-u32 .ensures) refl (c .hop .ensures)
 
 same-length : tie.Need-same-length Inv-loop μ-loop
 same-length c =
@@ -66,7 +66,7 @@ returns c =
     let start = c .before .before .before in
     let a = start .args in
     let p = start .pre in
-    ends (a .shape) (a .ink) (a .course) (a .first) (a .past) (p .0 .1) (p .1 .1) (p .1 .0)
+    ends (a .shape) (a .ink) (a .course) (a .first) (a .past) (a .slope .by) (p .1 .1) (p .1 .0)
     (now (a .sheet)) (k .sheet) (k .p) (k .at) (k .n) (k .inv) (c .loop-test .left)
 
 pub walk-spec : {M : Type 1} → statement M
