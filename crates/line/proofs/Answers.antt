@@ -1,5 +1,5 @@
 -- Drawing a line, by the course that the code walks.
-use Prim.Native.Nat.{ℕ, _+_}
+use Prim.Native.Nat.{ℕ, _+_, _≤_}
 use mathlib.Core.Path.{_≡_, refl, sym, ap, ap₂, _∙_}
 use mathlib.Core.List.{List, [], _∷_}
 use mathlib.Core.Bool.{Bool, true, false, _&&_}
@@ -27,6 +27,7 @@ use Rattle.sheet.proofs.Paint.{paint-as}
 use Rattle.line.specs.Rule.{long, nth, onLine}
 use Rattle.line.specs.Draw.{lineAnswer, lineDrawing}
 use Rattle.line.specs.Inner.Course.{courseOf, Runs, firstCells}
+use Rattle.line.specs.Inner.Span.{On}
 use Rattle.line.specs.declared.Course.{Course}
 use Rattle.line.proofs.Bridge.{ends-lifted, course-runs, course-cell, course-long}
 
@@ -73,7 +74,13 @@ moved-of m e =
 pub spot-lifted : (p : Spot) → inLimits (unmovedCell p) ≡ true → LiftedCell (unmovedCell p) p
 spot-lifted p e = record { inside-x = moved-of (p .x) (limits-x _ e); inside-y = moved-of (p .y) (limits-y _ e); stands = refl }
 
--- the code's test of that
+-- one on the sheet is within the limits
+pub on-limits : (k : Shape) (p : Spot) → k .width ≤ 4096 → k .height ≤ 4096 → On k p → inLimits (unmovedCell p) ≡ true
+unfolding inLimits
+on-limits k p w h o =
+    ap₂ _&&_ (moved-in (p .x) (record { least = omega (arith, o .left); most = omega (arith, o .right) })) (moved-in (p .y) (record { least = omega (arith, o .top); most = omega (arith, o .bottom) }))
+
+-- the code's test of the limits
 moved-test : (m : ℕ) → (leb 49152 m && leb m 81919) ≡ coordinate (unmoved m)
 moved-test m = by (leb 49152 m) (leb m 81919) refl refl
   where

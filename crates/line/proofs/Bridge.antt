@@ -83,7 +83,7 @@ pub longer-le : (w t k : ℕ) → w ≤ k → t ≤ k → longer w t ≤ k
 longer-le w t k p q = cond-le (ltb w t) t w k q p
 
 -- a lesser spot has no greater y
-lesser-y : (p q : Spot) → lesserSpot p q ≡ true → p .y ≤ q .y
+pub lesser-y : (p q : Spot) → lesserSpot p q ≡ true → p .y ≤ q .y
 lesser-y p q e = by (ltb (p .y) (q .y)) (eqb (p .y) (q .y)) refl refl e
   where
     by : (t u : Bool) → ltb (p .y) (q .y) ≡ t → eqb (p .y) (q .y) ≡ u → (t || (u && leb (p .x) (q .x))) ≡ true → p .y ≤ q .y
@@ -91,7 +91,7 @@ lesser-y p q e = by (ltb (p .y) (q .y)) (eqb (p .y) (q .y)) refl refl e
     by false true f g h = omega (arith, eqb-true (p .y) (q .y) g)
     by false false f g h = absurd (from-true false h)
 
-not-lesser-y : (p q : Spot) → lesserSpot p q ≡ false → q .y ≤ p .y
+pub not-lesser-y : (p q : Spot) → lesserSpot p q ≡ false → q .y ≤ p .y
 not-lesser-y p q e = by (ltb (p .y) (q .y)) refl e
   where
     by : (t : Bool) → ltb (p .y) (q .y) ≡ t → (t || (eqb (p .y) (q .y) && leb (p .x) (q .x))) ≡ false → q .y ≤ p .y

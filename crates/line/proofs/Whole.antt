@@ -1,9 +1,11 @@
 -- A line whose two ends are on the sheet is on it whole, and one of one cell or two is its ends.
 use Prim.Native.Nat.{ℕ, zero, suc, _+_, _≤_, _<_}
-use mathlib.Core.Path.{_≡_, refl, sym, ap, _∙_}
+use mathlib.Core.Path.{_≡_, refl, sym, subst, ap, _∙_}
 use mathlib.Core.Bool.{Bool, true, false, cond, _||_, or-self}
 use mathlib.Core.List.{List}
 use native.Mathlib.Omega.{arith}
+use lib.Dec.{leb, ltb}
+use borrow.Author.Tests.{leb-true, leb-false}
 use Rattle.laws.specs.Below.{any}
 use Rattle.sheet.specs.Sheet.{cellOf, isCell, paint}
 use Rattle.sheet.specs.Inner.{unmovedCell, inkedAt, Disjoint}
@@ -12,10 +14,11 @@ use Rattle.sheet.specs.declared.Shape.{Shape}
 use Rattle.sheet.specs.declared.Spot.{Spot}
 use Rattle.sheet.proofs.Marks.{inked-paints}
 use Rattle.sheet.proofs.Paint.{paint-as, paint-then}
-use Rattle.line.specs.Rule.{rise}
-use Rattle.line.specs.Inner.Course.{stepped, spotAt, Runs, firstCells}
+use Rattle.line.specs.Rule.{longer, shorter, rise}
+use Rattle.line.specs.Inner.Course.{gap, stepped, spotAt, lesserSpot, courseFrom, courseOf, Runs, firstCells}
 use Rattle.line.specs.Inner.Span.{stepsX, stepsY, On, Spans}
 use Rattle.line.specs.declared.Course.{Course}
+use Rattle.line.proofs.Bridge.{shorter-le, lesser-y, not-lesser-y}
 use Rattle.line.proofs.Rise.{rise-start, rise-short, rise-end}
 
 -- the steps to the nth cell are between those to the first and those to the last, along either axis
@@ -38,7 +41,7 @@ between-high : (up : Bool) (m most i k j : ℕ) → (i ≤ k) × (k ≤ j) → s
 between-high true m most i k j b p q = omega arith
 between-high false m most i k j b p q = omega arith
 
-pub whole : (k : Shape) (c : Course) → Runs c → On k (spotAt c 0) → On k (spotAt c (c .long)) → Spans k c 0 (c .long + 1)
+whole : (k : Shape) (c : Course) → Runs c → On k (spotAt c 0) → On k (spotAt c (c .long)) → Spans k c 0 (c .long + 1)
 unfolding spotAt
 whole k c r a b =
     record {
@@ -55,6 +58,60 @@ whole k c r a b =
       before = λ n u p o. absurd (omega arith);
       after = λ n u p o. absurd (omega arith);
     }
+
+-- a course's first spot and its last are the ends that it was found from
+steps-end : (w t : ℕ) → (cond (ltb w t) (rise (longer w t) (shorter w t) (longer w t)) (longer w t) ≡ w)
+    × (cond (ltb w t) (longer w t) (rise (longer w t) (shorter w t) (longer w t)) ≡ t)
+steps-end w t = rw (rise-end (longer w t) (shorter w t) (shorter-le w t)) (by (ltb w t))
+  where
+    by : (u : Bool) → (cond u (cond u w t) (cond u t w) ≡ w) × (cond u (cond u t w) (cond u w t) ≡ t)
+    by true = (refl, refl)
+    by false = (refl, refl)
+
+no-steps : (t : Bool) (m n : ℕ) → m ≡ 0 → n ≡ 0 → cond t m n ≡ 0
+no-steps true m n e f = e
+no-steps false m n e f = f
+
+stepped-none : (up : Bool) (m k : ℕ) → k ≡ 0 → stepped up m k ≡ m
+stepped-none true m k e = omega arith
+stepped-none false m k e = omega arith
+
+stepped-to : (m n : ℕ) → stepped (leb m n) m (gap m n) ≡ n
+stepped-to m n = by (leb m n) refl
+  where
+    by : (t : Bool) → leb m n ≡ t → stepped t m (gap m n) ≡ n
+    by true e = omega (arith, leb-true m n e)
+    by false e = omega (arith, leb-false m n e)
+
+module _ (p q : Spot) where
+  first-spot : spotAt (courseFrom p q) 0 ≡ p
+  unfolding spotAt
+  first-spot =
+      let w = gap (p .x) (q .x) in
+      let t = gap (p .y) (q .y) in
+      let none = rise-start (longer w t) (shorter w t) in
+      λ i. record { x = stepped-none (leb (p .x) (q .x)) (p .x) _ (no-steps (ltb w t) _ 0 none refl) i; y = stepped-none true (p .y) _ (no-steps (ltb w t) 0 _ refl none) i }
+
+  last-spot : p .y ≤ q .y → spotAt (courseFrom p q) (courseFrom p q .long) ≡ q
+  unfolding spotAt
+  last-spot h =
+      let s = steps-end (gap (p .x) (q .x)) (gap (p .y) (q .y)) in
+      let ex = ap (stepped (leb (p .x) (q .x)) (p .x)) (s .0) ∙ stepped-to (p .x) (q .x) in
+      let g : p .y + gap (p .y) (q .y) ≡ q .y = omega arith in
+      let ey = ap (λ (k : ℕ). p .y + k) (s .1) ∙ g in
+      λ i. record { x = ex i; y = ey i }
+
+-- so one whose ends are on the sheet is on it whole
+pub course-whole : (k : Shape) (c : Course) (p q : Spot) → c ≡ courseOf p q → Runs c → On k p → On k q → Spans k c 0 (c .long + 1)
+unfolding courseOf
+course-whole k c p q e r a b = whole k c r (at-ends .0) (at-ends .1)
+  where
+    either : (t : Bool) → lesserSpot p q ≡ t → let d = cond t (courseFrom p q) (courseFrom q p) in On k (spotAt d 0) × On k (spotAt d (d .long))
+    either true f = (subst (On k) (sym (first-spot p q)) a, subst (On k) (sym (last-spot p q (lesser-y p q f))) b)
+    either false f = (subst (On k) (sym (first-spot q p)) b, subst (On k) (sym (last-spot q p (not-lesser-y p q f))) a)
+
+    at-ends : On k (spotAt c 0) × On k (spotAt c (c .long))
+    at-ends = rw e (either (lesserSpot p q) refl)
 
 -- the cells of a line of one or two
 end-cells : (c : Course) → c .long ≤ 1 → (d : Cell)

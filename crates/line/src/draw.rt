@@ -133,16 +133,6 @@ fn is_on(shape: Shape, spot: Spot) -> bool
     ((65536 <= x) & (x < right)) & ((65536 <= y) & (y < bottom))
 }
 
-// Whether both ends are on the sheet, and with them every cell between.
-fn is_whole(shape: Shape, course: Course) -> bool
-    requires { ⌜ (shape .width ≤ 4096) × (shape .height ≤ 4096) × Runs course ⌝ }
-    ensures { λ r. ⌜ (r ≡ true → Spans shape course 0 (course .long + 1)) ⌝ }
-{
-    let first = spot_of(course, 0, 0);
-    let last = spot_of(course, course.long, course.short);
-    is_on(shape, first) & is_on(shape, last)
-}
-
 // The byte of the nth cell, which is on the sheet.
 fn byte_at(shape: Shape, course: Course, n: u32, q: u32) -> usize
     requires { ⌜ (shape .pitch ≤ 8192) × (shape .width ≤ 4096) × (shape .height ≤ 4096) × Runs course ⌝ }
@@ -301,10 +291,6 @@ fn run(sheet: &mut [u8], shape: Shape, ink: u8, course: Course) -> u32
     ensures { λ r. ⌜ (r ≡ cellsOn shape (firstCells course (course .long + 1)))
         × (now (sheet .exit) ≡ paint shape ink (firstCells course (course .long + 1)) (now (sheet .entry))) ⌝ }
 {
-    if is_whole(shape, course) {
-        whole_line(sheet, shape, ink, course);
-        return course.long + 1;
-    }
     let first = first_n(shape, course);
     let past = past_n(shape, course);
     if past <= first {
@@ -331,6 +317,11 @@ pub fn draw_between(sheet: &mut [u8], shape: Shape, ink: u8, from: Spot, to: Spo
     let tested = sheet::check(shape, sheet.len());
     if !tested.is_done() {
         return tested;
+    }
+    if is_on(shape, from) & is_on(shape, to) {
+        let course = course_of(from, to);
+        whole_line(sheet, shape, ink, course);
+        return Reply::Counted(course.long as usize + 1);
     }
     if !(is_moved(from) & is_moved(to)) {
         return Reply::Refused(Refusal::Coordinate);

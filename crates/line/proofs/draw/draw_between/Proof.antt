@@ -1,17 +1,23 @@
 -- `line::draw::draw_between` meets its contract.
-use mathlib.Core.Path.{_≡_, refl}
+use Prim.Native.Nat.{_+_, _-_}
+use mathlib.Core.Path.{_≡_, refl, ap₂, _∙_}
 use mathlib.Core.Bool.{true, _&&_}
+use native.Mathlib.Omega.{arith}
 use lib.ListN.{length}
 use denote.Ref.{now}
 use Rattle.laws.proofs.Tests.{no, yes, halves}
 use Rattle.sheet.specs.Sheet.{inLimits}
-use Rattle.sheet.specs.Inner.{unmovedCell, fits}
+use Rattle.sheet.specs.Inner.{Sheet, unmovedCell, fits}
 use Rattle.sheet.specs.declared.Refusal.the-variants.{Coordinate}
 use Rattle.sheet.proofs.Draws.{refuses}
 use Rattle.sheet.proofs.Lent.{if-sheet, is-sheet, sheet-refused}
 use Rattle.sheet.proofs.Limits.{fits-sheet, LiftedCell}
 use Rattle.line.specs.Draw.{lineAnswer}
-use Rattle.line.proofs.Answers.{spot-lifted, line-runs, line-done}
+use Rattle.line.specs.Inner.Course.{Runs}
+use Rattle.line.specs.Inner.Span.{On, Spans}
+use Rattle.line.proofs.Answers.{spot-lifted, on-limits, line-runs, line-done}
+use Rattle.line.proofs.Walking.{counted}
+use Rattle.line.proofs.Whole.{course-whole}
 use borrow.Author.Needs.{needs}
 use Rattle.line.proofs.draw.draw_between.Statement.{statement}
 use Rattle.line.proofs.draw.draw_between.Tie as tie
@@ -20,15 +26,49 @@ use Rattle.line.proofs.draw.draw_between.Tie as tie
 fitted : (c : tie.Else1) → let a = c .before .before .before .before .args in fits (a .shape) (length (now (a .sheet))) ≡ true
 fitted c = let asked = c .before in is-sheet _ _ _ _ (asked .before .check .ensures) (asked .is-done .ensures) (c .if1 .left)
 
-moved : (c : tie.After-is-moved2) → let a = c .before .before .before .before .before .before .args in
+lent : (c : tie.Else1) → let a = c .before .before .before .before .args in Sheet (a .shape) (now (a .sheet))
+lent c = let a = c .before .before .before .before .args in fits-sheet (a .shape) (now (a .sheet)) (fitted c)
+
+-- both ends are on the sheet
+ends-on : (c : tie.Then2) → let a = c .before .before .before .before .before .before .before .args in On (a .shape) (a .from) × On (a .shape) (a .to)
+ends-on c =
+    let u = c .before .before .is-on in
+    let v = c .before .is-on2 in
+    let h = halves (u .result) (v .result) (c .if2 .taken) in
+    (u .ensures (h .0), v .ensures (h .1))
+
+within : (c : tie.Then2) → let a = c .before .before .before .before .before .before .before .args in
+    (inLimits (unmovedCell (a .from)) ≡ true) × (inLimits (unmovedCell (a .to)) ≡ true)
+within c =
+    let sized = c .before .before .before in
+    let a = sized .before .before .before .before .args in
+    let o = ends-on c in
+    let k = lent sized in
+    (on-limits (a .shape) (a .from) (k .wide) (k .high) (o .0), on-limits (a .shape) (a .to) (k .wide) (k .high) (o .1))
+
+runs-on : (c : tie.After-course-of) → Runs (c .course-of .result)
+runs-on c =
+    let a = c .before .before .before .before .before .before .before .before .args in
+    let w = within (c .before) in
+    line-runs (a .shape) _ _ _ _ _ (spot-lifted (a .from) (w .0)) (spot-lifted (a .to) (w .1)) (c .course-of .ensures)
+
+spanned : (c : tie.After-course-of) → let a = c .before .before .before .before .before .before .before .before .args in
+    let course = c .course-of .result in Spans (a .shape) course 0 (course .long + 1)
+spanned c =
+    let a = c .before .before .before .before .before .before .before .before .args in
+    let o = ends-on (c .before) in
+    course-whole (a .shape) _ (a .from) (a .to) (c .course-of .ensures) (runs-on c) (o .0) (o .1)
+
+-- or within the limits
+moved : (c : tie.After-is-moved2) → let a = c .before .before .before .before .before .before .before .before .before .args in
     (c .before .is-moved .result && c .is-moved2 .result) ≡ (inLimits (unmovedCell (a .from)) && inLimits (unmovedCell (a .to)))
 moved c = λ t. c .before .is-moved .ensures t && c .is-moved2 .ensures t
 
-inside : (c : tie.Else2) → let a = c .before .before .before .before .before .before .before .args in
+inside : (c : tie.Else3) → let a = c .before .before .before .before .before .before .before .before .before .before .args in
     (inLimits (unmovedCell (a .from)) && inLimits (unmovedCell (a .to))) ≡ true
-inside c = yes _ _ (moved (c .before)) (c .if2 .left)
+inside c = yes _ _ (moved (c .before)) (c .if3 .left)
 
-lifted : (c : tie.Else2) → let a = c .before .before .before .before .before .before .before .args in
+lifted : (c : tie.Else3) → let a = c .before .before .before .before .before .before .before .before .before .before .args in
     LiftedCell (unmovedCell (a .from)) (a .from) × LiftedCell (unmovedCell (a .to)) (a .to)
 lifted c =
     let h = halves _ _ (inside c) in
@@ -44,42 +84,77 @@ returns : tie.Need-returns
 unfolding lineAnswer
 returns c = let asked = c .before in sheet-refused _ _ _ _ _ _ refl (asked .before .check .ensures) (asked .is-done .ensures) (c .if1 .taken)
 
+is-on-requires : tie.Need-is-on-requires
+is-on-requires c κs = let k = lent c in (k .wide, k .high)
+
+is-on-requires-2 : tie.Need-is-on-requires-2
+is-on-requires-2 c κs = let k = lent (c .before) in (k .wide, k .high)
+
+course-of-requires : tie.Need-course-of-requires
+course-of-requires c κs = search needs
+
+whole-line-requires : tie.Need-whole-line-requires
+whole-line-requires c κs = let charted = c .before in (lent (charted .before .before .before .before), runs-on charted, spanned charted)
+
+cast-t16 : tie.Need-cast-t16
+cast-t16 c = search needs
+
+add-t17 : tie.Need-add-t17
+add-t17 c = search needs
+
+same-length : tie.Need-same-length
+same-length c = search needs
+
+returns-2 : tie.Need-returns-2
+returns-2 c =
+    let called = c .before .before .before in
+    let charted = called .before .before in
+    let sized = charted .before .before .before .before in
+    let a = sized .before .before .before .before .args in
+    let w = within (charted .before) in
+    let course = charted .course-of .result in
+    let n : course .long + 1 ≡ course .long + 1 - 0 = omega arith in
+    line-done (a .shape) _ _ _ _ _ (spot-lifted (a .from) (w .0)) (spot-lifted (a .to) (w .1)) (charted .course-of .ensures)
+    (a .ink) _ (now (a .sheet)) _ (fitted sized) (ap₂ _&&_ (w .0) (w .1))
+    (n ∙ counted (a .shape) (lent sized .disjoint) course (runs-on charted) 0 (course .long + 1) (spanned charted) (omega arith)) (called .whole-line .ensures)
+
 is-moved-requires : tie.Need-is-moved-requires
 is-moved-requires c κs = search needs
 
 is-moved-requires-2 : tie.Need-is-moved-requires-2
 is-moved-requires-2 c κs = search needs
 
-returns-2 : tie.Need-returns-2
+returns-3 : tie.Need-returns-3
 unfolding lineAnswer
-returns-2 c = refuses _ _ Coordinate (simp (if-sheet _ _ (fitted (c .before .before .before)), no _ _ (moved (c .before)) (c .if2 .taken)))
+returns-3 c =
+    refuses _ _ Coordinate (simp (if-sheet _ _ (fitted (c .before .before .before .before .before .before)), no _ _ (moved (c .before)) (c .if3 .taken)))
 
-course-of-requires : tie.Need-course-of-requires
-course-of-requires c κs = search needs
+course-of-requires-2 : tie.Need-course-of-requires-2
+course-of-requires-2 c κs = search needs
 
 run-requires : tie.Need-run-requires
 run-requires c κs =
-    let limited = c .before .before in
-    let sized = limited .before .before .before in
+    let charted = c .before in
+    let sized = charted .before .before .before .before .before .before .before in
     let a = sized .before .before .before .before .args in
-    let l = lifted limited in
-    (fits-sheet (a .shape) (now (a .sheet)) (fitted sized), line-runs (a .shape) _ _ _ _ _ (l .0) (l .1) (c .before .course-of .ensures))
+    let l = lifted (charted .before) in
+    (lent sized, line-runs (a .shape) _ _ _ _ _ (l .0) (l .1) (charted .course-of2 .ensures))
 
-cast-t8 : tie.Need-cast-t8
-cast-t8 c = search needs
+cast-t9 : tie.Need-cast-t9
+cast-t9 c = search needs
 
-same-length : tie.Need-same-length
-same-length c = search needs
+same-length-2 : tie.Need-same-length-2
+same-length-2 c = search needs
 
-returns-3 : tie.Need-returns-3
-returns-3 c =
+returns-4 : tie.Need-returns-4
+returns-4 c =
     let called = c .before .before in
     let charted = called .before .before in
     let limited = charted .before in
-    let sized = limited .before .before .before in
+    let sized = limited .before .before .before .before .before .before in
     let a = sized .before .before .before .before .args in
     let l = lifted limited in
-    line-done (a .shape) _ _ _ _ _ (l .0) (l .1) (charted .course-of .ensures)
+    line-done (a .shape) _ _ _ _ _ (l .0) (l .1) (charted .course-of2 .ensures)
     (a .ink) _ (now (a .sheet)) _ (fitted sized) (inside limited) (called .run .ensures .0) (called .run .ensures .1)
 
 pub draw-between-spec : {M : Type 1} → statement M
@@ -89,11 +164,19 @@ draw-between-spec =
     check-requires
     is-done-requires
     returns
+    is-on-requires
+    is-on-requires-2
+    course-of-requires
+    whole-line-requires
+    cast-t16
+    add-t17
+    same-length
+    returns-2
     is-moved-requires
     is-moved-requires-2
-    returns-2
-    course-of-requires
+    returns-3
+    course-of-requires-2
     run-requires
-    cast-t8
-    same-length
-    returns-3)
+    cast-t9
+    same-length-2
+    returns-4)

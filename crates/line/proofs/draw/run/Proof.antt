@@ -1,7 +1,4 @@
 -- `line::draw::run` meets its contract.
-use Prim.Native.Nat.{_+_, _-_}
-use mathlib.Core.Path.{_≡_, _∙_}
-use native.Mathlib.Omega.{arith}
 use denote.Ref.{now}
 use Rattle.line.specs.Inner.Span.{Spans}
 use Rattle.line.proofs.Ranges.{spans}
@@ -10,34 +7,10 @@ use borrow.Author.Needs.{needs}
 use Rattle.line.proofs.draw.run.Statement.{statement}
 use Rattle.line.proofs.draw.run.Tie as tie
 
-range : (c : tie.After-past-n) → let a = c .before .before .before .before .before .args in Spans (a .shape) (a .course) (c .before .first-n .result) (c .past-n .result)
+range : (c : tie.After-past-n) → let a = c .before .before .before .args in Spans (a .shape) (a .course) (c .before .first-n .result) (c .past-n .result)
 range c =
-    let a = c .before .before .before .before .before .args in
+    let a = c .before .before .before .args in
     spans (a .shape) (a .course) _ _ (c .before .first-n .ensures) (c .past-n .ensures)
-
-is-whole-requires : tie.Need-is-whole-requires
-is-whole-requires c κs = search needs
-
-whole-line-requires : tie.Need-whole-line-requires
-whole-line-requires c κs =
-    let tested = c .before in
-    let p = tested .before .before .before .pre in
-    (p .0, p .1, tested .before .is-whole .ensures (tested .if1 .taken))
-
-add-result : tie.Need-add-result
-add-result c = search needs
-
-same-length : tie.Need-same-length
-same-length c = search needs
-
-returns : tie.Need-returns
-returns c =
-    let called = c .before .before .before in
-    let tested = called .before .before in
-    let start = tested .before .before .before in
-    let a = start .args in
-    let e : a .course .long + 1 ≡ a .course .long + 1 - 0 = omega arith in
-    (e ∙ counted (a .shape) (start .pre .0 .disjoint) (a .course) (start .pre .1) 0 (a .course .long + 1) (tested .before .is-whole .ensures (tested .if1 .taken)) (omega arith), called .whole-line .ensures)
 
 first-n-requires : tie.Need-first-n-requires
 first-n-requires c κs = search needs
@@ -45,45 +18,33 @@ first-n-requires c κs = search needs
 past-n-requires : tie.Need-past-n-requires
 past-n-requires c κs = search needs
 
-returns-2 : tie.Need-returns-2
-returns-2 c =
+returns : tie.Need-returns
+returns c =
     let found = c .before in
-    let start = found .before .before .before .before .before in
+    let start = found .before .before .before in
     let a = start .args in
-    nothing (a .shape) (start .pre .0 .disjoint) (a .course) (start .pre .1) _ _ (range found) (c .if2 .taken) (a .ink) (now (a .sheet))
+    nothing (a .shape) (start .pre .0 .disjoint) (a .course) (start .pre .1) _ _ (range found) (c .if1 .taken) (a .ink) (now (a .sheet))
 
 part-line-requires : tie.Need-part-line-requires
 part-line-requires c κs =
     let found = c .before .before in
-    (found .before .before .before .before .before .pre, (c .before .if2 .left, range found))
+    (found .before .before .before .pre, (c .before .if1 .left, range found))
 
 sub-result : tie.Need-sub-result
 sub-result c = search needs
 
-same-length-2 : tie.Need-same-length-2
-same-length-2 c = search needs
+same-length : tie.Need-same-length
+same-length c = search needs
 
-returns-3 : tie.Need-returns-3
-returns-3 c =
+returns-2 : tie.Need-returns-2
+returns-2 c =
     let tested = c .before .before .before .before in
     let found = tested .before in
-    let start = found .before .before .before .before .before in
+    let start = found .before .before .before in
     let a = start .args in
-    (counted (a .shape) (start .pre .0 .disjoint) (a .course) (start .pre .1) _ _ (range found) (tested .if2 .left), c .before .before .part-line .ensures)
+    (counted (a .shape) (start .pre .0 .disjoint) (a .course) (start .pre .1) _ _ (range found) (tested .if1 .left), c .before .before .part-line .ensures)
 
 pub run-spec : {M : Type 1} → statement M
 run-spec =
     tie.close
-    (tie.spec
-    is-whole-requires
-    whole-line-requires
-    add-result
-    same-length
-    returns
-    first-n-requires
-    past-n-requires
-    returns-2
-    part-line-requires
-    sub-result
-    same-length-2
-    returns-3)
+    (tie.spec first-n-requires past-n-requires returns part-line-requires sub-result same-length returns-2)
