@@ -1,5 +1,5 @@
 -- The way along a curve whose control points are within the limits: its spots stand for the rule's points; and a curve that is drawn.
-use Prim.Native.Nat.{ℕ, _+_, _-_, _*_, _/_, _^_, _≤_, _<_}
+use Prim.Native.Nat.{ℕ, _+_, _-_, _/_, _^_, _≤_, _<_}
 use mathlib.Core.Path.{_≡_, refl, sym, subst, ap, _∙_}
 use mathlib.Core.List.{List, [], _∷_, map}
 use mathlib.Core.Bool.{Bool, true, _&&_, and-true}
@@ -13,10 +13,9 @@ use Rattle.sheet.specs.Drawing.{Draws}
 use Rattle.sheet.specs.Inner.{unmoved, unmovedCell, fits}
 use Rattle.sheet.specs.declared.Cell.{Cell}
 use Rattle.sheet.specs.declared.Shape.{Shape}
-use Rattle.sheet.specs.declared.Spot.{Spot}
 use Rattle.sheet.proofs.Draws.{draws}
 use Rattle.sheet.proofs.Lent.{if-sheet}
-use Rattle.sheet.proofs.Limits.{LiftedCell, limit-high, limits-x, limits-y, stands-parts}
+use Rattle.sheet.proofs.Limits.{limit-high, limits-x, limits-y, stands-parts}
 use Rattle.curve.specs.Rule.{coordinateAt, pointAt, onCurve}
 use Rattle.curve.specs.Draw.{allInLimits, curveAnswer, curveDrawing}
 use Rattle.curve.specs.Inner.{pointsOf, shiftOf, Follows, Leads, nextWay, Divides, spotOf}
@@ -36,28 +35,12 @@ pub four-in : (a b c d : Cell) → (inLimits a && (inLimits b && (inLimits c && 
 unfolding allInLimits
 four-in a b c d = ap (λ (t : Bool). inLimits a && t) (three-in b c d)
 
--- the way of control points that were lifted
-module _ (s : ℕ) (x y : Walk) where
-  pub three-lead : (a b c : Cell) (p q r : Spot) → LiftedCell a p → LiftedCell b q → LiftedCell c r
-      → Follows (unmoved (p .x) ∷ unmoved (q .x) ∷ unmoved (r .x) ∷ []) s 0 x → Follows (unmoved (p .y) ∷ unmoved (q .y) ∷ unmoved (r .y) ∷ []) s 0 y
-      → Leads (a ∷ b ∷ c ∷ []) s 0 (record { x = x; y = y; shift = 2 * s + 1 })
-  three-lead a b c p q r e f g h k =
-      record {
-        along-x = subst (λ (zs : List ℤ). Follows zs s 0 x) (λ t. e .stands t .x ∷ f .stands t .x ∷ g .stands t .x ∷ []) h;
-        along-y = subst (λ (zs : List ℤ). Follows zs s 0 y) (λ t. e .stands t .y ∷ f .stands t .y ∷ g .stands t .y ∷ []) k;
-        shift-is = refl;
-      }
-
-  pub four-lead : (a b c d : Cell) (p q r t : Spot) → LiftedCell a p → LiftedCell b q → LiftedCell c r → LiftedCell d t
-      → Follows (unmoved (p .x) ∷ unmoved (q .x) ∷ unmoved (r .x) ∷ unmoved (t .x) ∷ []) s 0 x
-      → Follows (unmoved (p .y) ∷ unmoved (q .y) ∷ unmoved (r .y) ∷ unmoved (t .y) ∷ []) s 0 y
-      → Leads (a ∷ b ∷ c ∷ d ∷ []) s 0 (record { x = x; y = y; shift = 3 * s + 1 })
-  four-lead a b c d p q r t e f g m h k =
-      record {
-        along-x = subst (λ (zs : List ℤ). Follows zs s 0 x) (λ j. e .stands j .x ∷ f .stands j .x ∷ g .stands j .x ∷ m .stands j .x ∷ []) h;
-        along-y = subst (λ (zs : List ℤ). Follows zs s 0 y) (λ j. e .stands j .y ∷ f .stands j .y ∷ g .stands j .y ∷ m .stands j .y ∷ []) k;
-        shift-is = refl;
-      }
+-- the way along control points is that of the same ones, lifted
+pub lifted-lead : (ps qs : List Cell) (s shift : ℕ) (x y : Walk) → ps ≡ qs
+    → Follows (map (λ (c : Cell). c .x) ps) s 0 x → Follows (map (λ (c : Cell). c .y) ps) s 0 y → shift ≡ shiftOf (length ps) s
+    → Leads qs s 0 (record { x = x; y = y; shift = shift })
+lifted-lead ps qs s shift x y e h k f =
+    subst (λ (qs : List Cell). Leads qs s 0 (record { x = x; y = y; shift = shift })) e (record { along-x = h; along-y = k; shift-is = f })
 
 module _ (ps : List Cell) (some : 0 < length ps) (few : length ps ≤ 4) (s i : ℕ) (w : Way) (h : Leads ps s i w) (l : s ≤ 6) where
   pub leads-next : Leads ps s (i + 1) (nextWay w)

@@ -7,7 +7,7 @@ use native.Mathlib.Omega.{arith}
 use lib.ListN.{length, getD, length-map}
 use lib.Pow.{pow-pos}
 use Rattle.sheet.specs.Inner.{Moved, unmoved}
-use Rattle.curve.specs.Inner.{sumAt, shiftOf, Joint, Gives}
+use Rattle.curve.specs.Inner.{sumAt, Small, shiftOf, Joint, Gives}
 use Rattle.curve.specs.declared.Powers.{Powers}
 use Rattle.curve.specs.declared.Terms.{Terms}
 use Rattle.curve.proofs.Blend.{weighThree, weighFour, blend-three, blend-four}
@@ -30,16 +30,21 @@ cubicTerms p q r t n =
       losses = powers (6 * (n * n * p)) (12 * (n * q)) (2 * (p + 3 * r));
     }
 
--- terms that come to twice the blend and the half give the coordinate
-module _ (qs : List ℕ) (some : 0 < length qs) (s : ℕ) (t : Terms) where
-  pub joint-of : (i : ℕ) → i ≤ 2 ^ s → t .start + sumAt (t .gains) i ≡ sumAt (t .losses) i + twiceAt qs (2 ^ s) i → Joint (map unmoved qs) s i t
-  joint-of i l e =
-      let d = ap (λ (k : ℕ). 2 ^ shiftOf k s) (length-map qs unmoved) ∙ twice-power (length qs - 1) s in
-      record {
-        value = twiceAt qs (2 ^ s) i;
-        made = e;
-        stands = ap (λ (k : ℕ). unmoved (twiceAt qs (2 ^ s) i / k)) d ∙ sym (coordinate-moved qs (2 ^ s) i some (pow-pos s) l);
-      }
+-- small terms that come to twice the blend and the half, at each i, give the coordinate
+abbrev Made : List ℕ → ℕ → Terms → ℕ → Type 0
+Made qs n t i = t .start + sumAt (t .gains) i ≡ sumAt (t .losses) i + twiceAt qs n i
+
+gives-of : (qs : List ℕ) → 0 < length qs → (s n : ℕ) (t : Terms) → n ≡ 2 ^ s → Small t → ((i : ℕ) → i ≤ n → Made qs n t i) → Gives (map unmoved qs) s t
+gives-of qs some s n t e small made = record { small = small; joint = λ i l. joint i l (subst (λ (n : ℕ). Made qs n t i) e (made i (omega arith))) }
+  where
+    joint : (i : ℕ) → i ≤ 2 ^ s → Made qs (2 ^ s) t i → Joint (map unmoved qs) s i t
+    joint i l m =
+        let d = ap (λ (k : ℕ). 2 ^ shiftOf k s) (length-map qs unmoved) ∙ twice-power (length qs - 1) s in
+        record {
+          value = twiceAt qs (2 ^ s) i;
+          made = m;
+          stands = ap (λ (k : ℕ). unmoved (twiceAt qs (2 ^ s) i / k)) d ∙ sym (coordinate-moved qs (2 ^ s) i some (pow-pos s) l);
+        }
 
 -- n² and n³
 square : (n : ℕ) → n ^ 2 ≡ n * n
@@ -79,7 +84,7 @@ by-three k i p q r t = together (k + i) (i * i) (i * i * i) p q r t _ _ _ (first
     together n ii iii p q r t x y z e f g = omega arith
 
 -- what the terms come to, at each i
-three-made : (p q r n i : ℕ) → i ≤ n → let t = quadraticTerms p q r n in t .start + sumAt (t .gains) i ≡ sumAt (t .losses) i + twiceAt (p ∷ q ∷ r ∷ []) n i
+three-made : (p q r n i : ℕ) → i ≤ n → Made (p ∷ q ∷ r ∷ []) n (quadraticTerms p q r n) i
 three-made p q r n i l =
     let e : n - i + i ≡ n = omega arith in
     let b = blend-three n i (λ (j : ℕ). getD (p ∷ q ∷ r ∷ []) j 0) in
@@ -89,7 +94,7 @@ three-made p q r n i l =
     e (by-two (n - i) i p q r)
     ∙ (λ j. sumAt (quadraticTerms p q r n .losses) i + (2 * sym b j + sym z j))
 
-four-made : (p q r t n i : ℕ) → i ≤ n → let w = cubicTerms p q r t n in w .start + sumAt (w .gains) i ≡ sumAt (w .losses) i + twiceAt (p ∷ q ∷ r ∷ t ∷ []) n i
+four-made : (p q r t n i : ℕ) → i ≤ n → Made (p ∷ q ∷ r ∷ t ∷ []) n (cubicTerms p q r t n) i
 four-made p q r t n i l =
     let e : n - i + i ≡ n = omega arith in
     let b = blend-four n i (λ (j : ℕ). getD (p ∷ q ∷ r ∷ t ∷ []) j 0) in
@@ -137,17 +142,13 @@ three-give p q r s n a b c e l =
     let pm = a .most in
     let qm = b .most in
     let rm = c .most in
-    record {
-      small = record {
-        start-low = omega (arith, z .two-p);
-        gains-low = record { one-low = omega (arith, z .nq); two-low = omega arith; three-low = omega arith };
-        losses-low = record { one-low = omega (arith, z .np); two-low = omega arith; three-low = omega arith };
-      };
-      joint = λ i m. joint-of (p ∷ q ∷ r ∷ []) (omega arith) s (quadraticTerms p q r n) i m (made i m);
-    }
-  where
-    made : (i : ℕ) → i ≤ 2 ^ s → let t = quadraticTerms p q r n in t .start + sumAt (t .gains) i ≡ sumAt (t .losses) i + twiceAt (p ∷ q ∷ r ∷ []) (2 ^ s) i
-    made i m = three-made p q r n i (omega arith) ∙ ap (λ (k : ℕ). sumAt (quadraticTerms p q r n .losses) i + twiceAt (p ∷ q ∷ r ∷ []) k i) e
+    gives-of (p ∷ q ∷ r ∷ []) (omega arith) s n (quadraticTerms p q r n) e
+    (record {
+      start-low = omega (arith, z .two-p);
+      gains-low = record { one-low = omega (arith, z .nq); two-low = omega arith; three-low = omega arith };
+      losses-low = record { one-low = omega (arith, z .np); two-low = omega arith; three-low = omega arith };
+    })
+    (three-made p q r n)
 
 pub four-give : (p q r t s n : ℕ) → Moved p → Moved q → Moved r → Moved t → n ≡ 2 ^ s → n ≤ 64 → Gives (unmoved p ∷ unmoved q ∷ unmoved r ∷ unmoved t ∷ []) s (cubicTerms p q r t n)
 four-give p q r t s n a b c d e l =
@@ -156,14 +157,10 @@ four-give p q r t s n a b c d e l =
     let qm = b .most in
     let rm = c .most in
     let tm = d .most in
-    record {
-      small = record {
-        start-low = omega (arith, z .three-p);
-        gains-low = record { one-low = omega (arith, z .nnq); two-low = omega (arith, z .npr); three-low = omega arith };
-        losses-low = record { one-low = omega (arith, z .nnp); two-low = omega (arith, z .nq); three-low = omega arith };
-      };
-      joint = λ i m. joint-of (p ∷ q ∷ r ∷ t ∷ []) (omega arith) s (cubicTerms p q r t n) i m (made i m);
-    }
-  where
-    made : (i : ℕ) → i ≤ 2 ^ s → let w = cubicTerms p q r t n in w .start + sumAt (w .gains) i ≡ sumAt (w .losses) i + twiceAt (p ∷ q ∷ r ∷ t ∷ []) (2 ^ s) i
-    made i m = four-made p q r t n i (omega arith) ∙ ap (λ (k : ℕ). sumAt (cubicTerms p q r t n .losses) i + twiceAt (p ∷ q ∷ r ∷ t ∷ []) k i) e
+    gives-of (p ∷ q ∷ r ∷ t ∷ []) (omega arith) s n (cubicTerms p q r t n) e
+    (record {
+      start-low = omega (arith, z .three-p);
+      gains-low = record { one-low = omega (arith, z .nnq); two-low = omega (arith, z .npr); three-low = omega arith };
+      losses-low = record { one-low = omega (arith, z .nnp); two-low = omega (arith, z .nq); three-low = omega arith };
+    })
+    (four-made p q r t n)

@@ -1,9 +1,10 @@
 -- `curve::by_four` meets its contract.
+use mathlib.Core.Path.{refl}
 use native.Mathlib.Omega.{arith}
 use mathlib.Core.List.{[], _∷_}
 use Rattle.sheet.proofs.Limits.{LiftedCell, lifted-cell}
 use Rattle.curve.proofs.Between.{each-in}
-use Rattle.curve.proofs.Answers.{four-lead}
+use Rattle.curve.proofs.Answers.{lifted-lead}
 use borrow.Author.Needs.{needs}
 use Rattle.curve.proofs.by_four.Statement.{statement}
 use Rattle.curve.proofs.by_four.Tie as tie
@@ -50,7 +51,7 @@ add-t13 c = omega (arith, c .before .before .before .before .before .before .pre
 returns : tie.Need-returns
 returns c =
     let l = lifted (c .before .before) in
-    four-lead _ _ _ _ _ _ _ _ _ _ _ (l .0) (l .1) (l .2) (l .3) (c .before .cubic .ensures) (c .cubic2 .ensures)
+    lifted-lead _ _ _ _ _ _ (λ t. l .0 .stands t ∷ l .1 .stands t ∷ l .2 .stands t ∷ l .3 .stands t ∷ []) (c .before .cubic .ensures) (c .cubic2 .ensures) refl
 
 pub by-four-spec : {M : Type 1} → statement M
 by-four-spec =

@@ -1,9 +1,10 @@
 -- `curve::by_three` meets its contract.
+use mathlib.Core.Path.{refl}
 use native.Mathlib.Omega.{arith}
 use mathlib.Core.List.{[], _∷_}
 use Rattle.sheet.proofs.Limits.{LiftedCell, lifted-cell}
 use Rattle.curve.proofs.Between.{each-in}
-use Rattle.curve.proofs.Answers.{three-lead}
+use Rattle.curve.proofs.Answers.{lifted-lead}
 use borrow.Author.Needs.{needs}
 use Rattle.curve.proofs.by_three.Statement.{statement}
 use Rattle.curve.proofs.by_three.Tie as tie
@@ -44,7 +45,7 @@ add-t11 c = omega (arith, c .before .before .before .before .before .pre .1)
 returns : tie.Need-returns
 returns c =
     let l = lifted (c .before .before) in
-    three-lead _ _ _ _ _ _ _ _ _ (l .0) (l .1) (l .2) (c .before .quadratic .ensures) (c .quadratic2 .ensures)
+    lifted-lead _ _ _ _ _ _ (λ t. l .0 .stands t ∷ l .1 .stands t ∷ l .2 .stands t ∷ []) (c .before .quadratic .ensures) (c .quadratic2 .ensures) refl
 
 pub by-three-spec : {M : Type 1} → statement M
 by-three-spec =
