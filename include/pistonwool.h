@@ -28,7 +28,7 @@
 #include <stdint.h>
 
 /* the version of this header and of the library installed with it */
-#define PW_VERSION "0.3.1"
+#define PW_VERSION "0.3.2"
 
 #if SIZE_MAX != UINT64_MAX
 #error "Pistonwool is for 64-bit machines only"
@@ -39,7 +39,7 @@ extern "C" {
 #endif
 
 /* What each number is given for. Where several apply, the first in this order: 1, 15; then for a fill 17, 18; for figures in
- * metres 6, 7; for a record 8, 16, 9, 10; then 2, 3, 4; 5 of a listing is last. */
+ * metres 6, 7; for a record 8, 16, 9, 10; then 2, 3, 4; 5 of a listing is last, and so is 11 of a record that is written. */
 enum pw_reply {
     /* done */
     PW_DONE = 0,
@@ -63,6 +63,8 @@ enum pw_reply {
     PW_KIND = 9,
     /* a record length that is not that of its kind */
     PW_LENGTH = 10,
+    /* a buffer with fewer free bytes than the record takes */
+    PW_FULL = 11,
     /* a slice length other than pitch x height */
     PW_SLICE = 15,
     /* a record length under 2, which leaves no room for a kind */
@@ -129,6 +131,31 @@ uint32_t pw_pen_next(struct pw_pen *pen, int32_t *x, int32_t *y);
  * and 15, which speak of the sheet. A file that is refused draws nothing. */
 uint32_t pw_file(uint8_t *sheet, size_t len, uint32_t width, uint32_t height, uint32_t pitch,
                  const uint8_t *file, size_t n, uint64_t *value);
+
+/* Writing a record file: each call appends one record, an ink and a figure, to a lent buffer of which *filled bytes are
+ * filled, and *filled is then that many more. Every other byte of the buffer stays as it was. Written so from *filled 0 on,
+ * the first *filled bytes are at all times a file that pw_file draws: the figures in the order in which they were written.
+ * Limits are those of drawing. PW_FULL is given where fewer bytes are free than the record takes; none is free where
+ * *filled is above len. A circle is record kind 2, with its radius; an ellipse is kind 3, of equal axes too. */
+
+/* Appends the line from (x0, y0) to (x1, y1), in 13 bytes. */
+uint32_t pw_write_line(uint8_t *buffer, size_t len, uint64_t *filled, uint8_t ink,
+                       int32_t x0, int32_t y0, int32_t x1, int32_t y1);
+
+/* Appends the circle of radius r about (x, y), in 11 bytes. */
+uint32_t pw_write_circle(uint8_t *buffer, size_t len, uint64_t *filled, uint8_t ink, int32_t x, int32_t y, uint32_t r);
+
+/* Appends the ellipse of semi-axes a and b about (x, y), in 13 bytes. */
+uint32_t pw_write_ellipse(uint8_t *buffer, size_t len, uint64_t *filled, uint8_t ink,
+                          int32_t x, int32_t y, uint32_t a, uint32_t b);
+
+/* Appends the quadratic curve with these control points and s, in 18 bytes. */
+uint32_t pw_write_curve(uint8_t *buffer, size_t len, uint64_t *filled, uint8_t ink,
+                        int32_t x0, int32_t y0, int32_t x1, int32_t y1, int32_t x2, int32_t y2, uint32_t s);
+
+/* Appends the cubic curve with these control points and s, in 22 bytes. */
+uint32_t pw_write_cubic(uint8_t *buffer, size_t len, uint64_t *filled, uint8_t ink, int32_t x0, int32_t y0,
+                        int32_t x1, int32_t y1, int32_t x2, int32_t y2, int32_t x3, int32_t y3, uint32_t s);
 
 /* The same figures in metres, by a survey: the origins east and north, and the size of a cell.
  *
