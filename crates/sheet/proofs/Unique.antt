@@ -13,7 +13,7 @@ use lib.ListN.{length}
 use lib.IntN.{ℤ, natAbs}
 use Rattle.sheet.specs.Reply.{Answer, number, told, isDone}
 use Rattle.sheet.specs.declared.Refusal.{Refusal}
-use Rattle.sheet.specs.declared.Refusal.the-variants.{Size, Coordinate, Radius, Pieces, Room, Survey, NoCell, Short, Kind, Length, Slice, Kindless, Work, Start}
+use Rattle.sheet.specs.declared.Refusal.the-variants.{Size, Coordinate, Radius, Pieces, Room, Survey, NoCell, Short, Kind, Length, Full, Slice, Kindless, Work, Start}
 use Rattle.sheet.specs.declared.Reply.{Reply}
 use Rattle.sheet.specs.declared.Reply.the-variants.{Done, Counted, Refused, RefusedAt}
 use Rattle.sheet.proofs.Refusal.{parts, make}
@@ -40,6 +40,7 @@ number-finds NoCell = refl
 number-finds Short = refl
 number-finds Kind = refl
 number-finds Length = refl
+number-finds Full = refl
 number-finds Slice = refl
 number-finds Kindless = refl
 number-finds Work = refl

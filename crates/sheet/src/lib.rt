@@ -62,6 +62,8 @@ pub enum Refusal {
     Kind,
     // 10: record length not the length of its kind.
     Length,
+    // 11: the free bytes of a buffer are fewer than the record takes.
+    Full,
     // 15: the slice length differs from pitch × height.
     Slice,
     // 16: record length under 2, so that it has no kind.
@@ -88,6 +90,7 @@ impl Refusal {
             Refusal::Short => 8,
             Refusal::Kind => 9,
             Refusal::Length => 10,
+            Refusal::Full => 11,
             Refusal::Slice => 15,
             Refusal::Kindless => 16,
             Refusal::Work => 17,
