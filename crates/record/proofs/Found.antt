@@ -9,7 +9,8 @@ use lib.Dec.{leb, eqb}
 use lib.ListN.{length, getD, length-take, length-drop}
 use Rattle.sheet.specs.Sheet as sheet
 use Rattle.sheet.specs.declared.Refusal.{Refusal}
-use Rattle.record.specs.Layout.{Field, lengthWord, kindWord, ink, coordinate, radius, axisA, axisB, pieces, Row, wordAt, width, valueAt, widths, kindPlace, payloadPlace, lineRow, circleRow, ellipseRow, curveRow, cubicRow, table}
+use Rattle.sheet.specs.declared.Refusal.the-variants.{Kind, Length}
+use Rattle.record.specs.Layout.{Field, lengthWord, kindWord, ink, coordinate, radius, axisA, axisB, pieces, Row, wordAt, width, valueAt, widths, kindPlace, payloadPlace, lineRow, circleRow, ellipseRow, curveRow, cubicRow, table, forKind}
 use Rattle.record.specs.Reading.{Found, found, end, refused, unlessAt, valuesFrom, axisAt, limited, limitedFrom, rowFound, kindFound, payloadAt, foundAt}
 
 -- the field at k within its limits, and those that follow each other from k on
@@ -36,6 +37,23 @@ has-bytes radius = omega arith
 has-bytes axisA = omega arith
 has-bytes axisB = omega arith
 has-bytes pieces = omega arith
+
+-- each row of the table
+abbrev pub Each : (Row → Type 0) → List Row → Type 0
+Each P [] = Unit {0}
+Each P (row ∷ rows) = P row × Each P rows
+
+pub every : (P : Row → Type 0) → ((row : Row) → P row) → (rows : List Row) → Each P rows
+every P h [] = tt
+every P h (row ∷ rows) = (h row, every P h rows)
+
+-- a row's length counts the kind and the payload
+abbrev pub Counts : Row → Type 0
+Counts row = row .length ≡ widths (kindWord ∷ row .payload)
+
+table-counts : Each Counts table
+unfolding table lineRow circleRow ellipseRow curveRow cubicRow
+table-counts = (refl, (refl, (refl, (refl, (refl, tt)))))
 
 -- of a record at an offset, in a file of n bytes: what a refusal names is a byte of the file, at or after the record's first
 module _ (at n : ℕ) (P : Found → Type 0) (no : (r : Refusal) (o : ℕ) → at ≤ o → o < n → P (refused r o)) where
@@ -65,35 +83,37 @@ module _ (at n : ℕ) (P : Found → Type 0) (no : (r : Refusal) (o : ℕ) → a
       limited-has g p k (start + k) _ (omega arith) (omega arith)
       (λ l. fields-have fs p (k + width g) start f a (omega arith) (λ m. h (l, m)))
 
-  module _ (p : List ℕ) (next : ℕ) (inside : payloadPlace at + length p ≤ n) where
-    -- a record of a row, where its fields are within their limits
+  module _ (p : List ℕ) (next : ℕ) (inside : payloadPlace at + length p ≤ n) (kind : ℕ) where
+    -- a record of a row: it has the row's kind, its payload the row's bytes, and its fields are within their limits
     abbrev pub Made : Row → Type 0
-    Made row = LimitedFrom (row .payload) p 0 → P (found at next row (valuesFrom (row .payload) p 0))
+    Made row = kind ≡ row .kind → length p ≡ widths (row .payload) → LimitedFrom (row .payload) p 0 → P (found at next row (valuesFrom (row .payload) p 0))
 
-    row-has : (row : Row) → row .length ≡ widths (kindWord ∷ row .payload) → Made row → P (rowFound row p at next)
+    row-has : (row : Row) → Counts row → Made row → kind ≡ row .kind → P (rowFound row p at next)
     unfolding rowFound
-    row-has row l h =
-        passing (eqb (width kindWord + length p) (row .length)) _ at _ (omega arith) (omega arith)
-        (λ e. let m = eqb-true (width kindWord + length p) (row .length) e in fields-have (row .payload) p 0 (payloadPlace at) _ (omega arith) (omega arith) h)
+    row-has row l h e =
+        passing (eqb (width kindWord + length p) (row .length)) Length at _ (omega arith) (omega arith)
+        (λ t.
+        let m = eqb-true (width kindWord + length p) (row .length) t in
+        fields-have (row .payload) p 0 (payloadPlace at) _ (omega arith) (omega arith) (h e (omega arith)))
 
-    pub kind-has : (kind : ℕ) → Made lineRow → Made circleRow → Made ellipseRow → Made curveRow → Made cubicRow → P (kindFound table kind p at next)
-    unfolding kindFound table lineRow circleRow ellipseRow curveRow cubicRow
-    kind-has kind a b c d f =
-        by-test (eqb kind (lineRow .kind)) _ _ (λ e. row-has lineRow refl a)
-        (λ e. by-test (eqb kind (circleRow .kind)) _ _ (λ e. row-has circleRow refl b)
-        (λ e. by-test (eqb kind (ellipseRow .kind)) _ _ (λ e. row-has ellipseRow refl c)
-        (λ e. by-test (eqb kind (curveRow .kind)) _ _ (λ e. row-has curveRow refl d)
-        (λ e. by-test (eqb kind (cubicRow .kind)) _ _ (λ e. row-has cubicRow refl f) (λ e. no _ _ (omega arith) (omega arith))))))
+    rows-have : (rows : List Row) → Each Counts rows → Each Made rows → P (forKind rows kind (λ row. rowFound row p at next) (refused Kind (kindPlace at)))
+    rows-have [] c m = no Kind (kindPlace at) (omega arith) (omega arith)
+    rows-have (row ∷ rows) c m =
+        by-test (eqb kind (row .kind)) _ _ (λ e. row-has row (c .0) (m .0) (eqb-true kind (row .kind) e)) (λ e. rows-have rows (c .1) (m .1))
+
+    pub kind-has : Each Made table → P (kindFound kind p at next)
+    unfolding kindFound
+    kind-has m = rows-have table table-counts m
 
 module _ (s : List ℕ) (at : ℕ) (P : Found → Type 0) (no : (r : Refusal) (o : ℕ) → at ≤ o → o < length s → P (refused r o)) where
-  pub found-has : P end
+  pub found-has : (length s ≤ at → P end)
       → (payloadPlace at ≤ kindPlace at + wordAt s at → kindPlace at + wordAt s at ≤ length s → payloadPlace at + length (payloadAt s at) ≤ length s
-      → P (kindFound table (wordAt s (kindPlace at)) (payloadAt s at) at (kindPlace at + wordAt s at)))
+      → P (kindFound (wordAt s (kindPlace at)) (payloadAt s at) at (kindPlace at + wordAt s at)))
       → P (foundAt s at)
   unfolding foundAt
   found-has h k =
       let tests = passing at (length s) P no in
-      by-test at (length s) P no (leb (length s) at) _ _ (λ e. h)
+      by-test at (length s) P no (leb (length s) at) _ _ (λ e. h (leb-true (length s) at e))
       (λ e.
       let a = leb-false (length s) at e in
       tests (leb 2 (length s - at)) _ at _ (omega arith) (omega arith)

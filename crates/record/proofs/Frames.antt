@@ -30,7 +30,7 @@ module _ (s : List ℕ) (at : ℕ) where
     under-2 i j = simp (lt-leb _ _ h, le-leb _ _ g, le-leb _ _ (rw e at i), lt-leb _ _ (rw e at j))
 
     pub framed : (kind : ℕ) (r : Read) → w ≤ length s - at - 2 → 2 ≤ w → kind ≡ wordAt s (at + 2)
-        → r ≡ readOf (kindFound table kind (take (at + 2 + w - (at + 4)) (drop (at + 4) s)) at (at + 2 + w)) → r ≡ readAt s at
+        → r ≡ readOf (kindFound kind (take (at + 2 + w - (at + 4)) (drop (at + 4) s)) at (at + 2 + w)) → r ≡ readAt s at
     unfolding readAt foundAt
     framed kind r i j f k =
         let n : at + 2 + w - (at + 4) ≡ w - 2 = omega arith in

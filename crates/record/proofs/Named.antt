@@ -4,12 +4,13 @@ use mathlib.Core.Path.{_≡_, sym, subst}
 use lib.ListN.{length}
 use mathlib.Core.List.{List}
 use Rattle.sheet.specs.declared.Refusal.{Refusal}
+use Rattle.record.specs.Layout.{table}
 use Rattle.record.specs.Reading.{Found, refused, payloadAt, readOf, readAt}
 use Rattle.record.specs.File.{Contents, holds, refuses, also, onward, readIn, readFrom, readAll}
 use Rattle.record.specs.declared.types.Record.{Record}
 use Rattle.record.specs.declared.types.Read.{Read}
 use Rattle.record.specs.declared.types.Read.the-variants as read
-use Rattle.record.proofs.Found.{kind-has, found-has}
+use Rattle.record.proofs.Found.{every, kind-has, found-has}
 
 -- a read that refuses, and a file
 abbrev Names : ℕ → ℕ → Read → Type 0
@@ -22,7 +23,8 @@ unfolding readAt
 read-names s at =
     let P : Found → Type 0 = λ f. Names at (length s) (readOf f) in
     let no : (r : Refusal) (o : ℕ) → at ≤ o → o < length s → P (refused r o) = λ r o a b. (a, b) in
-    found-has s at P no tt (λ a b i. kind-has at (length s) P no (payloadAt s at) _ i _ (λ l. tt) (λ l. tt) (λ l. tt) (λ l. tt) (λ l. tt))
+    found-has s at P no (λ e. tt)
+    (λ a b i. kind-has at (length s) P no (payloadAt s at) _ i _ (every _ (λ row e m l. tt) table))
 
 pub names-byte : (s : List ℕ) (at : ℕ) (q : Refusal) (o : ℕ) → read.Refused q o ≡ readAt s at → (at ≤ o) × (o < length s)
 names-byte s at q o e = subst (Names at (length s)) (sym e) (read-names s at)

@@ -5,7 +5,7 @@ use mathlib.Core.List.{List}
 use lib.ListN.{length}
 use Rattle.sheet.specs.declared.Refusal.{Refusal}
 use Rattle.sheet.proofs.Figures.{Sound, cell-in, axes-in}
-use Rattle.record.specs.Layout.{Row, wordAt, kindPlace, lineRow, circleRow, ellipseRow, curveRow, cubicRow}
+use Rattle.record.specs.Layout.{Row, wordAt, kindPlace, lineRow, circleRow, ellipseRow, curveRow, cubicRow, table}
 use Rattle.record.specs.Reading.{Found, refused, valuesFrom, payloadAt, readOf, readAt}
 use Rattle.record.specs.declared.types.Record.{Record}
 use Rattle.record.specs.declared.types.Read.{Read}
@@ -63,20 +63,16 @@ module _ (s : List ℕ) (at : ℕ) where
   IfFound f = IfRecord (readOf f)
 
   if-record : IfRecord (readAt s at)
-  unfolding readAt
+  unfolding readAt table
   if-record =
       let no : (q : Refusal) (o : ℕ) → at ≤ o → o < length s → IfFound (refused q o) = λ q o a b. tt in
-      found-has s at IfFound no tt
+      found-has s at IfFound no (λ e. tt)
       (λ a b i.
       let p = payloadAt s at in
-      let made : (row : Row) → RowSound row p → Made at (length s) IfFound no p (kindPlace at + wordAt s at) i row =
-      λ row f l. record { here = refl; on = a; inside = b; sound = f l } in
+      let made : (row : Row) → RowSound row p → Made at (length s) IfFound no p (kindPlace at + wordAt s at) i (wordAt s (kindPlace at)) row =
+      λ row f e m l. record { here = refl; on = a; inside = b; sound = f l } in
       kind-has at (length s) IfFound no p _ i _
-      (made lineRow (line-sound p))
-      (made circleRow (circle-sound p))
-      (made ellipseRow (ellipse-sound p))
-      (made curveRow (curve-sound p))
-      (made cubicRow (cubic-sound p)))
+      (made lineRow (line-sound p), (made circleRow (circle-sound p), (made ellipseRow (ellipse-sound p), (made curveRow (curve-sound p), (made cubicRow (cubic-sound p), tt))))))
 
   pub stands : (r : Record) → read.Record r ≡ readAt s at → Stands s at r
   stands r e = subst IfRecord (sym e) if-record

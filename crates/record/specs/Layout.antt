@@ -1,9 +1,9 @@
 -- Document 01, "Record file", with K13 of document 02: the table of kinds, and how the fields of a payload are held.
-use Prim.Native.Nat.{ℕ, _+_, _*_}
+use Prim.Native.Nat.{ℕ, zero, suc, _+_, _*_, _-_, _/_, _%_}
 use mathlib.Core.List.{List, [], _∷_}
 use mathlib.Core.Bool.{cond}
-use lib.Dec.{ltb}
-use lib.IntN.{ℤ, pos, _-ℤ_}
+use lib.Dec.{ltb, eqb}
+use lib.IntN.{ℤ, pos, negsuc, _-ℤ_}
 use lib.ListN.{getD}
 use Rattle.sheet.specs.Figure.{cellIn, numberIn}
 use Rattle.sheet.specs.declared.Figure.{Figure}
@@ -16,6 +16,16 @@ wordAt s k = getD s k 0 + 256 * getD s (k + 1) 0
 -- signed 16-bit: from 32,768 on a word stands for 65,536 less
 unfoldable pub signed : ℕ → ℤ
 signed n = cond (ltb n 32768) (pos n) (pos n -ℤ pos 65536)
+
+-- and back: negsuc n, which is −(n + 1), is held as the word 65,536 greater
+abbrev pub unsigned : ℤ → ℕ
+unsigned (pos n) = n
+unsigned (negsuc n) = 65536 - suc n
+
+-- the lowest bytes of a number, little-endian, as many as a field has
+abbrev pub bytesOf : ℕ → ℕ → List ℕ
+bytesOf zero n = []
+bytesOf (suc w) n = n % 256 ∷ bytesOf w (n / 256)
 
 -- The fields of a record: its length and its kind are 2 bytes each; of its payload, coordinates are signed 16-bit, radii and axes
 -- unsigned 16-bit, the ink and s are 1 byte.
@@ -93,3 +103,8 @@ cubicRow =
 -- the table
 unfoldable pub table : List Row
 table = lineRow ∷ circleRow ∷ ellipseRow ∷ curveRow ∷ cubicRow ∷ []
+
+-- what is made of the table's row for a kind, or else of none
+abbrev pub forKind {ℓ} : {A : Type ℓ} → List Row → ℕ → (Row → A) → A → A
+forKind [] kind some none = none
+forKind (row ∷ rows) kind some none = cond (eqb kind (row .kind)) (some row) (forKind rows kind some none)

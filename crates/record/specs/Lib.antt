@@ -2,3 +2,4 @@ pub mod File
 pub mod Inner
 pub mod Layout
 pub mod Reading
+pub mod Writing

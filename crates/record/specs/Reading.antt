@@ -10,7 +10,7 @@ use Rattle.sheet.specs.Reply.{Answer, done, refuseAt}
 use Rattle.sheet.specs.Figure.{kindOf, valuesOf, numberIn}
 use Rattle.sheet.specs.declared.Refusal.{Refusal}
 use Rattle.sheet.specs.declared.Refusal.the-variants.{Coordinate, Radius, Pieces, Short, Kind, Length, Kindless}
-use Rattle.record.specs.Layout.{Field, lengthWord, kindWord, ink, coordinate, radius, axisA, axisB, pieces, Row, wordAt, width, valueAt, kindPlace, payloadPlace, table}
+use Rattle.record.specs.Layout.{Field, lengthWord, kindWord, ink, coordinate, radius, axisA, axisB, pieces, Row, wordAt, width, valueAt, kindPlace, payloadPlace, table, forKind}
 use Rattle.record.specs.declared.types.Read.{Read}
 use Rattle.record.specs.declared.types.Read.the-variants.{Record, End, Refused}
 
@@ -58,9 +58,8 @@ rowFound row p at next =
     (limitedFrom (row .payload) p 0 (payloadPlace at) (found at next row (valuesFrom (row .payload) p 0)))
 
 -- a payload of a kind: 9 unless a row of the table has it
-unfoldable pub kindFound : List Row → ℕ → List ℕ → ℕ → ℕ → Found
-kindFound [] kind p at next = refused Kind (kindPlace at)
-kindFound (row ∷ rows) kind p at next = cond (eqb kind (row .kind)) (rowFound row p at next) (kindFound rows kind p at next)
+unfoldable pub kindFound : ℕ → List ℕ → ℕ → ℕ → Found
+kindFound kind p at next = forKind table kind (λ row. rowFound row p at next) (refused Kind (kindPlace at))
 
 -- the payload, which starts after the kind and runs to the record's end
 abbrev pub payloadAt : List ℕ → ℕ → List ℕ
@@ -74,7 +73,7 @@ foundAt s at =
     (unlessAt (leb (width lengthWord) (length s - at)) Short at
     (unlessAt (leb (wordAt s at) (length s - at - width lengthWord)) Short at
     (unlessAt (leb (width kindWord) (wordAt s at)) Kindless at
-    (kindFound table (wordAt s (kindPlace at)) (payloadAt s at) at (kindPlace at + wordAt s at)))))
+    (kindFound (wordAt s (kindPlace at)) (payloadAt s at) at (kindPlace at + wordAt s at)))))
 
 -- the paper's answer: 0 with a record's offset, the offset after it, its kind and its payload's values; 0 alone at the end
 abbrev pub answerOf : Found → Answer

@@ -12,7 +12,7 @@ ghost use mathlib.Core.Bool.{cond};
 ghost use Prim.Native.Nat.{_+_, _*_, _<_};
 ghost use lib.ListN.{length};
 ghost use Rattle.sheet.specs.Reply.{told};
-ghost use Rattle.record.specs.Layout.{wordAt, signed, payloadPlace, lineRow, circleRow, ellipseRow, curveRow, cubicRow, table};
+ghost use Rattle.record.specs.Layout.{wordAt, signed, payloadPlace, lineRow, circleRow, ellipseRow, curveRow, cubicRow};
 ghost use Rattle.record.specs.Reading.{rowFound, kindFound, readOf, readAt, readAnswer, toldRead};
 ghost use Rattle.record.specs.File.{fileAnswer};
 ghost use Rattle.record.specs.Inner.{firstBad, cellField, threeField, axisField, splitField, closedBy};
@@ -296,7 +296,7 @@ fn cubic(payload: &[u8], at: usize, next: usize) -> Read
 // The payload of a record of any kind, by its decoder.
 fn decode(kind: u32, payload: &[u8], at: usize, next: usize) -> Read
     requires { ⌜ next ≡ payloadPlace at + length (now payload) ⌝ }
-    ensures { λ r. ⌜ r ≡ readOf (kindFound table kind (now (payload .entry)) at next) ⌝ }
+    ensures { λ r. ⌜ r ≡ readOf (kindFound kind (now (payload .entry)) at next) ⌝ }
 {
     match kind {
         1 => line(payload, at, next),
