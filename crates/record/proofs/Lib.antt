@@ -2,6 +2,9 @@ mod Words
 mod Rows
 mod Table
 mod Frames
+mod Puts
+mod Records
+pub mod Written
 mod Found
 pub mod Told
 pub mod Stands

@@ -1,14 +1,16 @@
 -- What only the inner functions promise each other.
 use Prim.Native.Nat.{ℕ, _+_}
-use mathlib.Core.List.{List}
+use mathlib.Core.List.{List, _++_}
 use mathlib.Core.Bool.{cond, _&&_}
-use lib.IntN.{ℤ}
+use lib.IntN.{ℤ, pos}
 use lib.ListN.{getD}
 use Rattle.sheet.specs.Sheet as sheet
+use Rattle.sheet.specs.declared.Cell.{Cell}
 use Rattle.sheet.specs.declared.Reply.{Reply}
 use Rattle.sheet.specs.declared.Reply.the-variants as reply
-use Rattle.record.specs.Layout.{coordinate, wordAt, valueAt}
+use Rattle.record.specs.Layout.{lengthWord, kindWord, ink, coordinate, wordAt, valueAt}
 use Rattle.record.specs.Reading.{axisAt}
+use Rattle.record.specs.Writing.{fieldBytes}
 use Rattle.record.specs.declared.CellField.{CellField}
 use Rattle.record.specs.declared.NumberField.{NumberField}
 use Rattle.record.specs.declared.ThreeField.{ThreeField}
@@ -51,3 +53,10 @@ abbrev pub closedBy : Read → ℕ → Reply
 closedBy (read.Record r) n = reply.Counted n
 closedBy read.End n = reply.Counted n
 closedBy (read.Refused q at) n = reply.RefusedAt q at
+
+-- what each record begins with, its length, its kind and its ink; and a cell of its payload
+abbrev pub headBytes : ℕ → ℕ → ℕ → List ℕ
+headBytes counts kind i = fieldBytes lengthWord (pos counts) ++ fieldBytes kindWord (pos kind) ++ fieldBytes ink (pos i)
+
+abbrev pub cellBytes : Cell → List ℕ
+cellBytes c = fieldBytes coordinate (c .x) ++ fieldBytes coordinate (c .y)

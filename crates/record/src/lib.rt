@@ -1,5 +1,6 @@
-// The record file: what stands at an offset, and a whole file read to its end.
+// The record file: what stands at an offset, a whole file read to its end, and writing a record.
 mod types;
+mod writing;
 
 use sheet::Cell;
 use sheet::Figure;
@@ -7,6 +8,7 @@ use sheet::Refusal;
 use sheet::Reply;
 pub use types::Read;
 pub use types::Record;
+pub use writing::write;
 ghost use mathlib.Core.Path.{_≡_};
 ghost use mathlib.Core.Bool.{cond};
 ghost use Prim.Native.Nat.{_+_, _*_, _<_};
