@@ -1,5 +1,5 @@
 -- The forms of the answers: what C is told of each.
-use Prim.Native.Nat.{ℕ, _+_, _*_}
+use Prim.Native.Nat.{ℕ, _+_, _-_, _*_}
 use mathlib.Core.Path.{refl}
 use mathlib.Core.List.{List, []}
 use mathlib.Core.Bool.{Bool, true, false, cond, _&&_}
@@ -12,9 +12,10 @@ use Rattle.sheet.specs.declared.Cell.{Cell}
 use Rattle.sheet.specs.declared.Shape.{Shape}
 use Rattle.sheet.specs.declared.Figure.{Figure}
 use Rattle.sheet.specs.declared.Refusal.{Refusal}
-use Rattle.sheet.specs.declared.Refusal.the-variants.{Coordinate, Radius, Pieces, Room, Work, Start}
+use Rattle.sheet.specs.declared.Refusal.the-variants.{Coordinate, Radius, Pieces, Room, Full, Work, Start}
 use Rattle.sheet.specs.declared.Refusal.the-variants as refusal
 use Rattle.sheet.proofs.Count.{cells-most}
+use Rattle.sheet.proofs.Figures.{figure-cases}
 use Rattle.line.specs.Rule.{long, onLine}
 use Rattle.line.specs.Draw.{lineAnswer}
 use Rattle.line.specs.Listing.{listAnswer}
@@ -30,8 +31,9 @@ use Rattle.survey.specs.declared.Metres.the-variants as metres
 use Rattle.survey.specs.declared.InCells.{InCells}
 use Rattle.survey.specs.declared.InCells.the-variants.{Figure as Is, Refused}
 use Rattle.fill.specs.Fill.{fillAnswer}
+use Rattle.record.specs.Writing.{recordSize, writeAnswer}
 use Rattle.drawing.specs.Metres.{cellsDrawing, metresDrawing}
-use Rattle.pistonwool.proofs.Told.{Tells, unless-tells, sheet-tells, None, One}
+use Rattle.pistonwool.proofs.Told.{Tells, unless-tells, sheet-tells, None, Value, One}
 
 -- a line, a fill and a listing count cells
 pub line-tells : (k : Shape) (a b : Cell) (n : ℕ) → Tells One (lineAnswer k a b n)
@@ -57,6 +59,13 @@ list-tells n m a b =
     (λ r.
     let e = ends-lifted a b l _ _ refl refl in
     Tells.done _ (record { n = long a b + 1; is = refl; small = omega (arith, long-limit a b _ _ (e .0) (e .1)) })))
+
+-- a record that is written tells the new count
+pub write-tells : (filled : ℕ) (f : Figure) (n : ℕ) → Tells Value (writeAnswer filled f n)
+unfolding writeAnswer
+write-tells filled f n =
+    figure-cases (Tells Value) Tells.refused f _
+    (λ l. unless-tells (leb (recordSize f) (n - filled)) Full _ (λ r. Tells.done _ (record { n = filled + recordSize f; is = refl })))
 
 -- an ellipse and a curve tell their number alone
 pub ellipse-tells : (k : Shape) (c : Cell) (a b n : ℕ) → Tells None (ellipseAnswer k c a b n)

@@ -17,11 +17,14 @@ use Rattle.sheet.specs.Drawing.{ifSheet, Drawing, Draws}
 use Rattle.sheet.specs.Inner.{fits}
 use Rattle.sheet.specs.declared.Cell.{Cell}
 use Rattle.sheet.specs.declared.Shape.{Shape}
+use Rattle.sheet.specs.declared.Figure.{Figure}
 use Rattle.sheet.specs.declared.Refusal.{Refusal}
 use Rattle.sheet.proofs.Lent.{sheet-cases}
 use Rattle.sheet.proofs.Unique.{number-not-0}
 use Rattle.line.specs.Listing.{listAnswer, ListsInto}
 use Rattle.fill.specs.Fill.{fillAnswer, Fills, Spares}
+use Rattle.record.specs.Writing.{writeAnswer, Writes}
+use Rattle.record.proofs.Written.{writes-as}
 use Rattle.pistonwool.specs.Told.{numbered, counted, Keeps}
 
 -- a cell, as the machine reads its coordinates back from their bits
@@ -53,21 +56,33 @@ draws-number d s t a n h p e =
     let q = number-told a (subst (Tells None) (sym (h .tells)) p) in
     subst (λ (b : Answer). Draws d s b t) (q ∙ ap numbered (sym e)) h
 
--- with one that fits 32 bits: C is told the number and, where it is 0, the value
+-- with one: C is told the number and, where it is 0, the value
+pub record Value (v : List ℤ) : Type 0 where
+  pub n : ℕ
+  pub is : v ≡ pos n ∷ []
+
+value-told : (a : Answer) → Tells Value a → (n v before : ℕ) → n ≡ a .number → v ≡ settled a (valueOf a) before → (a ≡ counted n v) × Keeps n before v
+value-told _ (Tells.refused r) n v before e f =
+    let no : eqb (number r) 0 ≡ false = number-not-0 r in
+    (rw e (simp no), λ z. f ∙ simp no)
+value-told _ (Tells.done w p) n v before e f = (rw (e, f) (ap reply.done (p .is) ∙ rw (p .is)), λ z. absurd (z e))
+
+-- with one that fits 32 bits
 pub record One (v : List ℤ) : Type 0 where
   pub n : ℕ
   pub is : v ≡ pos n ∷ []
   pub small : n < 4294967296
+
+one-value : (a : Answer) → Tells One a → Tells Value a
+one-value _ (Tells.refused r) = Tells.refused r
+one-value _ (Tells.done v p) = Tells.done v (record { n = p .n; is = p .is })
 
 one-small : (a : Answer) → Tells One a → valueOf a < 4294967296
 one-small _ (Tells.refused r) = omega arith
 one-small _ (Tells.done v p) = subst (λ (n : ℕ). n < 4294967296) (sym (ap (λ (v : List ℤ). valueOf (reply.done v)) (p .is))) (p .small)
 
 count-told : (a : Answer) → Tells One a → (n v before : ℕ) → n ≡ a .number → v ≡ settled a (valueOf a) before → (a ≡ counted n v) × Keeps n before v
-count-told _ (Tells.refused r) n v before e f =
-    let no : eqb (number r) 0 ≡ false = number-not-0 r in
-    (rw e (simp no), λ z. f ∙ simp no)
-count-told _ (Tells.done w p) n v before e f = (rw (e, f) (ap reply.done (p .is) ∙ rw (p .is)), λ z. absurd (z e))
+count-told a t = value-told a (one-value a t)
 
 pub draws-small : (d : Drawing) (s t : List ℕ) (a : Answer) → Draws d s a t → Tells One (d .answer (length s)) → valueOf a < 4294967296
 draws-small d s t a h p = one-small a (subst (Tells One) (sym (h .tells)) p)
@@ -106,3 +121,15 @@ pub lists-count : (a b : Cell) (xs ys xs′ ys′ : List ℤ) (r : Answer) (n v 
 lists-count a b xs ys xs′ ys′ r n v before h p e =
     let q = count-told r (subst (Tells One) (sym (h .tells)) p) n v before (e .0) (e .1) in
     (subst (λ (c : Answer). ListsInto a b xs ys c xs′ ys′) (q .0) h, q .1)
+
+-- the same of writing a record, whose count may have 64 bits
+pub writes-count : (filled ink : ℕ) (f : Figure) (s t : List ℕ) (a : Answer) (n v : ℕ) → Writes filled ink f s a t → Tells Value (writeAnswer filled f (length s))
+    → (n ≡ a .number) × (v ≡ settled a (valueOf a) filled) → Writes filled ink f s (counted n v) t × Keeps n filled v
+writes-count filled ink f s t a n v h p e =
+    let q = value-told a (subst (Tells Value) (sym (h .tells)) p) n v filled (e .0) (e .1) in
+    (subst (λ (b : Answer). Writes filled ink f s b t) (q .0) h, q .1)
+
+-- and of an equal figure, the count and the buffer as they are told
+pub appends-as : (filled ink : ℕ) (f g : Figure) (s t : List ℕ) (n v : ℕ) → f ≡ g
+    → Writes filled ink f s (counted n v) t × Keeps n filled v → Writes filled ink g s (counted n v) t × Keeps n filled v
+appends-as filled ink f g s t n v e h = (writes-as filled ink f g s (counted n v) t e (h .0), h .1)

@@ -1,4 +1,4 @@
-// What C and Rust link: the drawings on numbers and slices, and the pen.
+// What C and Rust link: the drawings on numbers and slices, the pen, and writing records.
 // Each answers a number of the table; but a pen that is asked answers 1 for a cell and 0 for finished.
 ghost use mathlib.Core.Path.{_≡_};
 ghost use Prim.Native.Nat.{_<_};
@@ -9,6 +9,7 @@ mod file;
 mod metres;
 mod pen;
 mod territory;
+mod writing;
 
 pub use cells::pw_cubic;
 pub use cells::pw_curve;
@@ -22,6 +23,11 @@ pub use pen::pw_pen_begin;
 pub use pen::pw_pen_next;
 use sheet::Reply;
 pub use territory::pw_fill;
+pub use writing::pw_write_circle;
+pub use writing::pw_write_cubic;
+pub use writing::pw_write_curve;
+pub use writing::pw_write_ellipse;
+pub use writing::pw_write_line;
 
 // Tells a reply that counts cells: its number, and how many in cells where it is done.
 fn tell_cells(reply: Reply, cells: &mut u32) -> u32
