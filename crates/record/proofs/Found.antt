@@ -1,16 +1,16 @@
 -- A property of what stands at an offset, from the places where that is made.
 use Prim.Native.Nat.{ℕ, _+_, _-_, _≤_, _<_}
-use mathlib.Core.Path.{_≡_, refl}
+use mathlib.Core.Path.{_≡_, refl, _∙_}
 use mathlib.Core.List.{List, [], _∷_}
 use mathlib.Core.Bool.{Bool, true, false, cond}
 use native.Mathlib.Omega.{arith}
-use borrow.Author.Tests.{leb-true, leb-false, eqb-true}
+use borrow.Author.Tests.{leb-true, leb-false, eqb-true, eq-eqb}
 use lib.Dec.{leb, eqb}
 use lib.ListN.{length, getD, length-take, length-drop}
 use Rattle.sheet.specs.Sheet as sheet
 use Rattle.sheet.specs.declared.Refusal.{Refusal}
 use Rattle.sheet.specs.declared.Refusal.the-variants.{Kind, Length}
-use Rattle.record.specs.Layout.{Field, lengthWord, kindWord, ink, coordinate, radius, axisA, axisB, pieces, Row, wordAt, width, valueAt, widths, kindPlace, payloadPlace, lineRow, circleRow, ellipseRow, curveRow, cubicRow, table, forKind}
+use Rattle.record.specs.Layout.{Field, lengthWord, kindWord, ink, coordinate, radius, axisA, axisB, pieces, Form, byte, word, signedWord, form, formWidth, Row, wordAt, width, valueAt, widths, kindPlace, payloadPlace, lineRow, circleRow, ellipseRow, curveRow, cubicRow, table, forKind}
 use Rattle.record.specs.Reading.{Found, found, end, refused, unlessAt, valuesFrom, axisAt, limited, limitedFrom, rowFound, kindFound, payloadAt, foundAt}
 
 -- the field at k within its limits, and those that follow each other from k on
@@ -28,20 +28,19 @@ unfoldable pub LimitedFrom : List Field → List ℕ → ℕ → Type 0
 LimitedFrom [] p k = Unit {0}
 LimitedFrom (g ∷ fs) p k = Limited g p k × LimitedFrom fs p (k + width g)
 
-has-bytes : (g : Field) → 1 ≤ width g
-has-bytes lengthWord = omega arith
-has-bytes kindWord = omega arith
-has-bytes ink = omega arith
-has-bytes coordinate = omega arith
-has-bytes radius = omega arith
-has-bytes axisA = omega arith
-has-bytes axisB = omega arith
-has-bytes pieces = omega arith
+has-bytes : (g : Form) → 1 ≤ formWidth g
+has-bytes byte = omega arith
+has-bytes word = omega arith
+has-bytes signedWord = omega arith
 
 -- each row of the table
 abbrev pub Each : (Row → Type 0) → List Row → Type 0
 Each P [] = Unit {0}
 Each P (row ∷ rows) = P row × Each P rows
+
+pub each-as : {P Q : Row → Type 0} (rows : List Row) → ((row : Row) → P row → Q row) → Each P rows → Each Q rows
+each-as [] h e = tt
+each-as (row ∷ rows) h e = (h row (e .0), each-as rows h (e .1))
 
 pub every : (P : Row → Type 0) → ((row : Row) → P row) → (rows : List Row) → Each P rows
 every P h [] = tt
@@ -54,6 +53,27 @@ Counts row = row .length ≡ widths (kindWord ∷ row .payload)
 table-counts : Each Counts table
 unfolding table lineRow circleRow ellipseRow curveRow cubicRow
 table-counts = (refl, (refl, (refl, (refl, (refl, tt)))))
+
+-- fields within their limits are not refused, and so a payload of a row's length makes its record
+limited-passes : (g : Field) (p : List ℕ) (k o : ℕ) (f : Found) → Limited g p k → limited g p k o f ≡ f
+limited-passes lengthWord p k o f l = refl
+limited-passes kindWord p k o f l = refl
+limited-passes ink p k o f l = refl
+limited-passes coordinate p k o f l = simp l
+limited-passes radius p k o f l = simp l
+limited-passes axisA p k o f l = simp l
+limited-passes axisB p k o f l = simp l
+limited-passes pieces p k o f l = simp l
+
+fields-pass : (fs : List Field) (p : List ℕ) (k start : ℕ) (f : Found) → LimitedFrom fs p k → limitedFrom fs p k start f ≡ f
+unfolding limitedFrom LimitedFrom
+fields-pass [] p k start f l = refl
+fields-pass (g ∷ fs) p k start f l = limited-passes g p k (start + k) _ (l .0) ∙ fields-pass fs p (k + width g) start f (l .1)
+
+pub row-found : (row : Row) (p : List ℕ) (at next : ℕ) → Counts row → length p ≡ widths (row .payload) → LimitedFrom (row .payload) p 0
+    → rowFound row p at next ≡ found at next row (valuesFrom (row .payload) p 0)
+unfolding rowFound
+row-found row p at next c e l = simp (eq-eqb (width kindWord + length p) (row .length) (omega arith)) (fields-pass (row .payload) p 0 (payloadPlace at) _ l)
 
 -- of a record at an offset, in a file of n bytes: what a refusal names is a byte of the file, at or after the record's first
 module _ (at n : ℕ) (P : Found → Type 0) (no : (r : Refusal) (o : ℕ) → at ≤ o → o < n → P (refused r o)) where
@@ -79,7 +99,7 @@ module _ (at n : ℕ) (P : Found → Type 0) (no : (r : Refusal) (o : ℕ) → a
   unfolding limitedFrom LimitedFrom
   fields-have [] p k start f a b h = h tt
   fields-have (g ∷ fs) p k start f a b h =
-      let w = has-bytes g in
+      let w = has-bytes (form g) in
       limited-has g p k (start + k) _ (omega arith) (omega arith)
       (λ l. fields-have fs p (k + width g) start f a (omega arith) (λ m. h (l, m)))
 

@@ -4,11 +4,15 @@ mod Table
 mod Frames
 mod Puts
 mod Records
+mod Fields
 pub mod Written
 mod Found
 pub mod Told
 pub mod Stands
 pub mod Onward
+mod Rowed
+mod Same
+pub mod Again
 mod Counting
 pub mod Unique
 pub mod Examples

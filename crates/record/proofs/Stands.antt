@@ -4,7 +4,9 @@ use mathlib.Core.Path.{_≡_, refl, sym, subst}
 use mathlib.Core.List.{List}
 use lib.ListN.{length}
 use Rattle.sheet.specs.declared.Refusal.{Refusal}
+use Rattle.laws.proofs.Tests.{halves}
 use Rattle.sheet.proofs.Figures.{Sound, cell-in, axes-in}
+use Rattle.sheet.proofs.Limits.{limits-x, limits-y}
 use Rattle.record.specs.Layout.{Row, wordAt, kindPlace, lineRow, circleRow, ellipseRow, curveRow, cubicRow, table}
 use Rattle.record.specs.Reading.{Found, refused, valuesFrom, payloadAt, readOf, readAt}
 use Rattle.record.specs.declared.types.Record.{Record}
@@ -22,6 +24,10 @@ pub record Stands (s : List ℕ) (at : ℕ) (r : Record) : Type 0 where
 -- the figure of a row, where the fields of its payload are within their limits
 abbrev RowSound : Row → List ℕ → Type 0
 RowSound row p = LimitedFrom (row .payload) p 0 → Sound (row .figure (valuesFrom (row .payload) p 0))
+
+-- and back
+abbrev RowLimited : Row → List ℕ → Type 0
+RowLimited row p = Sound (row .figure (valuesFrom (row .payload) p 0)) → LimitedFrom (row .payload) p 0
 
 module _ (p : List ℕ) where
   line-sound : RowSound lineRow p
@@ -52,6 +58,42 @@ module _ (p : List ℕ) where
       let p2 = p1 .1 .1 in
       let p3 = p2 .1 .1 in
       (cell-in _ _ (l .1 .0) (l .1 .1 .0), cell-in _ _ (p1 .0) (p1 .1 .0), cell-in _ _ (p2 .0) (p2 .1 .0), cell-in _ _ (p3 .0) (p3 .1 .0), p3 .1 .1 .0)
+
+  pub line-limited : RowLimited lineRow p
+  unfolding LimitedFrom valuesFrom lineRow
+  line-limited l = (tt, (limits-x _ (l .0), (limits-y _ (l .0), (limits-x _ (l .1), (limits-y _ (l .1), tt)))))
+
+  pub circle-limited : RowLimited circleRow p
+  unfolding LimitedFrom valuesFrom circleRow
+  circle-limited l = (tt, (limits-x _ (l .0), (limits-y _ (l .0), (halves _ _ (l .1) .0, tt))))
+
+  pub ellipse-limited : RowLimited ellipseRow p
+  unfolding LimitedFrom valuesFrom ellipseRow
+  ellipse-limited l = let r = halves _ _ (l .1) in (tt, (limits-x _ (l .0), (limits-y _ (l .0), (r .0, (r .1, tt)))))
+
+  pub curve-limited : RowLimited curveRow p
+  unfolding LimitedFrom valuesFrom curveRow
+  curve-limited l =
+      (tt, (limits-x _ (l .0), (limits-y _ (l .0), (limits-x _ (l .1), (limits-y _ (l .1), (limits-x _ (l .2), (limits-y _ (l .2), (l .3, tt))))))))
+
+  pub cubic-limited : RowLimited cubicRow p
+  unfolding LimitedFrom valuesFrom cubicRow
+  cubic-limited l = (
+    tt,
+    (
+      limits-x _ (l .0),
+      (
+        limits-y _ (l .0),
+        (
+          limits-x _ (l .1),
+          (
+            limits-y _ (l .1),
+            (limits-x _ (l .2), (limits-y _ (l .2), (limits-x _ (l .3), (limits-y _ (l .3), (l .4, tt))))),
+          ),
+        ),
+      ),
+    ),
+  )
 
 module _ (s : List ℕ) (at : ℕ) where
   abbrev IfRecord : Read → Type 0

@@ -39,25 +39,38 @@ pub data Field : Type 0 where
   axisB : Field
   pieces : Field
 
+-- how each is held
+pub data Form : Type 0 where
+  byte : Form
+  word : Form
+  signedWord : Form
+
+abbrev pub form : Field → Form
+form lengthWord = word
+form kindWord = word
+form ink = byte
+form coordinate = signedWord
+form radius = word
+form axisA = word
+form axisB = word
+form pieces = byte
+
+abbrev pub formWidth : Form → ℕ
+formWidth byte = 1
+formWidth word = 2
+formWidth signedWord = 2
+
+abbrev pub formValue : Form → List ℕ → ℕ → ℤ
+formValue byte s k = pos (getD s k 0)
+formValue word s k = pos (wordAt s k)
+formValue signedWord s k = signed (wordAt s k)
+
+-- a field's width, and its value at a place
 abbrev pub width : Field → ℕ
-width lengthWord = 2
-width kindWord = 2
-width ink = 1
-width coordinate = 2
-width radius = 2
-width axisA = 2
-width axisB = 2
-width pieces = 1
+width f = formWidth (form f)
 
 abbrev pub valueAt : Field → List ℕ → ℕ → ℤ
-valueAt lengthWord s k = pos (wordAt s k)
-valueAt kindWord s k = pos (wordAt s k)
-valueAt ink s k = pos (getD s k 0)
-valueAt coordinate s k = signed (wordAt s k)
-valueAt radius s k = pos (wordAt s k)
-valueAt axisA s k = pos (wordAt s k)
-valueAt axisB s k = pos (wordAt s k)
-valueAt pieces s k = pos (getD s k 0)
+valueAt f = formValue (form f)
 
 abbrev pub widths : List Field → ℕ
 widths [] = 0

@@ -3,3 +3,4 @@ pub mod Inner
 pub mod Layout
 pub mod Reading
 pub mod Writing
+pub mod Again
