@@ -1,4 +1,4 @@
--- Document 01's examples of records, and document 02's: files, what is read at their first byte, and what the whole file answers.
+-- Document 01's examples of records, and document 02's: files, what is read at their first byte, and what the whole file answers; what is written.
 use Prim.Native.Nat.{ℕ, _+_, _-_, _≤_}
 use mathlib.Core.Path.{_≡_, refl}
 use mathlib.Core.List.{List, [], _∷_, map}
@@ -7,9 +7,13 @@ use lib.IntN.{pos, negsuc}
 use lib.ListN.{length, length-take, length-drop}
 use Rattle.sheet.specs.Reply.{Answer, done, refuseAt}
 use Rattle.sheet.specs.Sheet as sheet
+use Rattle.sheet.specs.Sheet.{cellOf}
+use Rattle.sheet.specs.declared.Figure.{Figure}
+use Rattle.sheet.specs.declared.Figure.the-variants.{Line, Circle, Ellipse, Curve, Cubic}
 use Rattle.sheet.specs.declared.Refusal.the-variants.{Coordinate, Radius, Pieces, Short, Kind, Length, Kindless}
 use Rattle.record.specs.Layout.{Row, kindWord, wordAt, widths, signed, lineRow, circleRow, ellipseRow, curveRow, cubicRow, table}
 use Rattle.record.specs.Reading.{valuesFrom, limitedFrom, rowFound, kindFound, payloadAt, foundAt, readAt, readAnswer}
+use Rattle.record.specs.Writing.{fieldsBytes, recordBytes}
 use Rattle.record.specs.File.{readIn, readFrom, readAll, fileAnswer}
 
 pub record Example : Type 0 where
@@ -81,6 +85,33 @@ pub examples-hold : (map (λ (e : Example). readAnswer (e .file) 0) examples ≡
     × (map (λ (e : Example). fileAnswer (e .file)) examples ≡ map (λ (e : Example). e .whole) examples)
 unfolding examples readAnswer fileAnswer readAll readFrom readIn readAt foundAt kindFound rowFound limitedFrom valuesFrom table lineRow circleRow ellipseRow curveRow cubicRow signed sheet.coordinate sheet.semiAxis
 examples-hold = (refl, refl)
+
+-- What is written for an ink and a figure: the line of document 01 again, and a record of each other kind.
+pub record Writing : Type 0 where
+  pub ink : ℕ
+  pub figure : Figure
+  pub bytes : List ℕ
+
+pub writings : List Writing
+writings =
+    record { ink = 1; figure = Line (cellOf 0 0) (cellOf 2 1); bytes = 11 ∷ 0 ∷ 1 ∷ 0 ∷ 1 ∷ 0 ∷ 0 ∷ 0 ∷ 0 ∷ 2 ∷ 0 ∷ 1 ∷ 0 ∷ [] }
+    ∷ record { ink = 5; figure = Circle (sheet.cell (pos 16383) (negsuc 0)) 3; bytes = 9 ∷ 0 ∷ 2 ∷ 0 ∷ 5 ∷ 255 ∷ 63 ∷ 255 ∷ 255 ∷ 3 ∷ 0 ∷ [] }
+    ∷ record { ink = 5; figure = Ellipse (cellOf 2 1) 0 0; bytes = 11 ∷ 0 ∷ 3 ∷ 0 ∷ 5 ∷ 2 ∷ 0 ∷ 1 ∷ 0 ∷ 0 ∷ 0 ∷ 0 ∷ 0 ∷ [] }
+    ∷ record {
+      ink = 255;
+      figure = Curve (sheet.cell (negsuc 16383) (pos 0)) (cellOf 2 4) (cellOf 4 0) 6;
+      bytes = 16 ∷ 0 ∷ 4 ∷ 0 ∷ 255 ∷ 0 ∷ 192 ∷ 0 ∷ 0 ∷ 2 ∷ 0 ∷ 4 ∷ 0 ∷ 4 ∷ 0 ∷ 0 ∷ 0 ∷ 6 ∷ [];
+    }
+    ∷ record {
+      ink = 0;
+      figure = Cubic (cellOf 0 0) (cellOf 0 4) (cellOf 4 4) (sheet.cell (pos 300) (negsuc 255)) 0;
+      bytes = 20 ∷ 0 ∷ 5 ∷ 0 ∷ 0 ∷ 0 ∷ 0 ∷ 0 ∷ 0 ∷ 0 ∷ 0 ∷ 4 ∷ 0 ∷ 4 ∷ 0 ∷ 4 ∷ 0 ∷ 44 ∷ 1 ∷ 0 ∷ 255 ∷ 0 ∷ [];
+    }
+    ∷ []
+
+pub writings-hold : map (λ (w : Writing). recordBytes (w .ink) (w .figure)) writings ≡ map (λ (w : Writing). w .bytes) writings
+unfolding writings recordBytes fieldsBytes table lineRow circleRow ellipseRow curveRow cubicRow
+writings-hold = refl
 
 -- the table's lengths count the kind and the payload
 pub lengths-hold : map (λ (row : Row). row .length) table ≡ map (λ (row : Row). widths (kindWord ∷ row .payload)) table

@@ -13,6 +13,7 @@ pub mod Onward
 mod Rowed
 mod Same
 pub mod Again
+pub mod Empty
 mod Counting
 pub mod Unique
 pub mod Examples
