@@ -48,26 +48,32 @@ fn record(rules: &Rules, rest: &[u8]) -> Result<(u8, Figure, usize), Bad> {
 }
 
 impl Rules {
+    /// Tells each record's ink and figure in order; or, where one is refused, the number and the offset of the field that is named.
+    pub fn read(&self, file: &[u8], mut tell: impl FnMut(u8, Figure)) -> Result<(), Bad> {
+        let mut offset = 0;
+        while offset < file.len() {
+            let refused = |(number, place)| (number, (self.offset)(offset, place));
+            let (ink, figure, taken) = record(self, &file[offset..]).map_err(refused)?;
+            tell(ink, figure);
+            offset += taken;
+        }
+        Ok(())
+    }
+
     /// Draws a file; the value is its number of records, or the offset of the field that is named.
     pub fn draw_file(&self, sheet: &mut Sheet, file: &[u8]) -> Reply {
         if let Some(number) = (self.no_sheet)(sheet) {
             return Reply { number, value: Some(0) };
         }
         let mut records = Vec::new();
-        let mut offset = 0;
-        while offset < file.len() {
-            match record(self, &file[offset..]) {
-                Err((number, place)) => {
-                    return Reply { number, value: Some((self.offset)(offset, place) as u64) };
-                }
-                Ok((ink, figure, taken)) => {
-                    if !self.reads_first {
-                        self.paint(sheet, ink, &figure);
-                    }
-                    records.push((ink, figure));
-                    offset += taken;
-                }
+        let read = self.read(file, |ink, figure| {
+            if !self.reads_first {
+                self.paint(sheet, ink, &figure);
             }
+            records.push((ink, figure));
+        });
+        if let Err((number, offset)) = read {
+            return Reply { number, value: Some(offset as u64) };
         }
         for (ink, figure) in &records {
             self.paint(sheet, *ink, figure);
