@@ -20,3 +20,4 @@ pub mod teeth_crossing;
 mod teeth_fill;
 pub mod territory;
 pub mod watched;
+pub mod writer;

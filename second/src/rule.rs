@@ -1,5 +1,6 @@
 //! Figures in cells: which cells each has, and the order of the refusals.
 use crate::native::Fill;
+use crate::writer::Writer;
 
 pub const LEAST: i64 = -16_384;
 pub const MOST: i64 = 16_383;
@@ -10,7 +11,7 @@ pub type Bad = (u32, usize);
 /// A cell that a pen tells, and how many it has told then.
 pub type Told = (Cell, u64);
 
-#[derive(Clone, Debug)]
+#[derive(Clone, Debug, PartialEq)]
 pub enum Figure {
     Line(Cell, Cell),
     Circle(Cell, i64),
@@ -84,6 +85,8 @@ pub struct Rules {
     pub reads_first: bool,
     /// The offset that a refusal tells, of a field that stands so far into the record at an offset.
     pub offset: fn(usize, usize) -> usize,
+    /// What writes a file.
+    pub writer: Writer,
 }
 
 impl Rules {
@@ -105,6 +108,7 @@ impl Rules {
             kindless: 16,
             reads_first: true,
             offset: |record, place| record + place,
+            writer: Writer::document(),
         }
     }
 
