@@ -19,16 +19,21 @@ pub fn file(random: &mut Random, size: Size) -> Vec<u8> {
 }
 
 pub fn record(random: &mut Random, size: Size, tame: bool, bytes: &mut Vec<u8>) {
-    let figure = match random.number() % 5 {
-        // of long files, most records are to be drawn
-        _ if tame => sound(random),
+    let kind = random.number();
+    // of long files, most records are to be drawn
+    let figure = if tame { sound(random) } else { of_kind(random, size, kind) };
+    write(random, figure, bytes);
+}
+
+/// A figure of this kind, within the limits or not.
+pub fn of_kind(random: &mut Random, size: Size, kind: u64) -> Cells {
+    match kind % 5 {
         0 => line(random, size),
         1 => circle(random, size),
         2 => ellipse(random, size),
         3 => curve(random, size),
         _ => cubic(random, size),
-    };
-    write(random, figure, bytes);
+    }
 }
 
 /// A small figure that is within the limits.
