@@ -33,6 +33,8 @@ pub enum Job {
     File(Size, Vec<u8>),
     /// A territory is filled on this ground, with a work slice of so many places.
     Fill(Size, Fill, usize, Ground),
+    /// A figure is written to a buffer of this length, of which so many bytes are said to be filled.
+    Write(usize, u64, u8, Cells),
 }
 
 /// A job, and the seed of what the lent buffers hold before it.
@@ -50,6 +52,9 @@ pub const MOST_PLACES: usize = 40_000;
 /// The most places that a random case lends in a work slice.
 pub const MOST_WORK: usize = 4096 * 4096 + 40;
 
+/// The most bytes that a random case lends in a buffer to write to.
+pub const MOST_BUFFER: usize = 1 << 19;
+
 /// As many places as a line has cells; fewer where no line is that long.
 pub fn places([x0, y0, x1, y1]: [i32; 4]) -> usize {
     1 + x0.abs_diff(x1).max(y0.abs_diff(y1)).min(36_000) as usize
@@ -59,11 +64,7 @@ impl Job {
     /// The export's name after its pw_; but a circle, drawn by that of ellipses, has its own.
     pub fn name(&self) -> &'static str {
         match self {
-            Job::Cells(_, _, Cells::Line(_)) => "line",
-            Job::Cells(_, _, Cells::Circle(..)) => "circle",
-            Job::Cells(_, _, Cells::Ellipse(..)) => "ellipse",
-            Job::Cells(_, _, Cells::Curve(..)) => "curve",
-            Job::Cells(_, _, Cells::Cubic(..)) => "cubic",
+            Job::Cells(_, _, figure) => figure.name(),
             Job::Metres(_, _, _, Metres::Line(_)) => "line_metres",
             Job::Metres(_, _, _, Metres::Circle(_)) => "circle_metres",
             Job::Metres(_, _, _, Metres::Ellipse(_)) => "ellipse_metres",
@@ -72,6 +73,11 @@ impl Job {
             Job::Next(_) => "pen_next",
             Job::File(..) => "file",
             Job::Fill(..) => "fill",
+            Job::Write(.., Cells::Line(_)) => "write_line",
+            Job::Write(.., Cells::Circle(..)) => "write_circle",
+            Job::Write(.., Cells::Ellipse(..)) => "write_ellipse",
+            Job::Write(.., Cells::Curve(..)) => "write_curve",
+            Job::Write(.., Cells::Cubic(..)) => "write_cubic",
         }
     }
 
@@ -79,7 +85,7 @@ impl Job {
     pub fn size(&self) -> Option<Size> {
         match self {
             Job::Cells(size, ..) | Job::Metres(size, ..) | Job::File(size, _) | Job::Fill(size, ..) => Some(*size),
-            Job::List(..) | Job::Begin(_) | Job::Next(_) => None,
+            Job::List(..) | Job::Begin(_) | Job::Next(_) | Job::Write(..) => None,
         }
     }
 
@@ -88,6 +94,29 @@ impl Job {
         match self {
             Job::Begin(ends) => Some(*ends),
             _ => None,
+        }
+    }
+}
+
+impl Cells {
+    fn name(&self) -> &'static str {
+        match self {
+            Cells::Line(_) => "line",
+            Cells::Circle(..) => "circle",
+            Cells::Ellipse(..) => "ellipse",
+            Cells::Curve(..) => "curve",
+            Cells::Cubic(..) => "cubic",
+        }
+    }
+
+    /// Its numbers, each after a blank.
+    fn words(&self) -> String {
+        match self {
+            Cells::Line(ends) => words(ends),
+            Cells::Circle(centre, r) => words(centre) + &words(&[r]),
+            Cells::Ellipse(centre, a, b) => words(centre) + &words(&[a, b]),
+            Cells::Curve(points, s) => words(points) + &words(&[s]),
+            Cells::Cubic(points, s) => words(points) + &words(&[s]),
         }
     }
 }
@@ -102,20 +131,16 @@ fn words<T: fmt::Debug>(numbers: &[T]) -> String {
     numbers.iter().map(|number| format!(" {number:?}")).collect()
 }
 
+/// Two digits for each byte.
+fn digits(bytes: &[u8]) -> String {
+    bytes.iter().map(|byte| format!("{byte:02x}")).collect()
+}
+
 impl fmt::Display for Case {
     fn fmt(&self, to: &mut fmt::Formatter) -> fmt::Result {
         write!(to, "{} {}", self.job.name(), self.held)?;
         match &self.job {
-            Job::Cells(size, ink, figure) => {
-                write!(to, " {size} {ink}")?;
-                match figure {
-                    Cells::Line(ends) => write!(to, "{}", words(ends)),
-                    Cells::Circle(centre, r) => write!(to, "{} {r}", words(centre)),
-                    Cells::Ellipse(centre, a, b) => write!(to, "{} {a} {b}", words(centre)),
-                    Cells::Curve(points, s) => write!(to, "{} {s}", words(points)),
-                    Cells::Cubic(points, s) => write!(to, "{} {s}", words(points)),
-                }
-            }
+            Job::Cells(size, ink, figure) => write!(to, " {size} {ink}{}", figure.words()),
             Job::Metres(size, ink, survey, figure) => {
                 let survey = words(&[survey.east, survey.north, survey.size]);
                 let fields = match figure {
@@ -127,13 +152,11 @@ impl fmt::Display for Case {
             Job::List([nx, ny], ends) => write!(to, " {nx} {ny}{}", words(ends)),
             Job::Begin(ends) => write!(to, "{}", words(ends)),
             Job::Next(Pen { ends, told }) => write!(to, "{} {told}", words(ends)),
-            Job::File(size, bytes) => {
-                let bytes: String = bytes.iter().map(|byte| format!("{byte:02x}")).collect();
-                write!(to, " {size} {bytes}")
-            }
+            Job::File(size, bytes) => write!(to, " {size} {}", digits(bytes)),
             Job::Fill(size, Fill { start, boundary, territory }, places, ground) => {
                 write!(to, " {size}{} {boundary} {territory} {places} {ground}", words(start))
             }
+            Job::Write(len, filled, ink, figure) => write!(to, " {len} {filled} {ink}{}", figure.words()),
         }
     }
 }
@@ -151,8 +174,31 @@ fn numbers<T: FromStr + Default + Copy, const N: usize>(words: &mut SplitWhitesp
     Ok(found)
 }
 
+/// Bytes, of which there may be none.
+fn bytes(words: &mut SplitWhitespace) -> Result<Vec<u8>, String> {
+    let digits = words.next().unwrap_or("");
+    let byte = |at| digits.get(at..at + 2).and_then(|pair| u8::from_str_radix(pair, 16).ok());
+    let bytes: Option<Vec<u8>> = (0..digits.len()).step_by(2).map(byte).collect();
+    Ok(bytes.ok_or("bytes are pairs of digits")?)
+}
+
+/// The figure with this name.
+fn figure(name: &str, words: &mut SplitWhitespace) -> Result<Cells, String> {
+    Ok(match name {
+        "line" => Cells::Line(numbers(words)?),
+        "circle" => Cells::Circle(numbers(words)?, number(words)?),
+        "ellipse" => Cells::Ellipse(numbers(words)?, number(words)?, number(words)?),
+        "curve" => Cells::Curve(numbers(words)?, number(words)?),
+        "cubic" => Cells::Cubic(numbers(words)?, number(words)?),
+        _ => return Err(format!("no export is named {name}")),
+    })
+}
+
 /// A job that is lent no sheet.
 fn without_sheet(name: &str, words: &mut SplitWhitespace) -> Result<Option<Job>, String> {
+    if let Some(written) = name.strip_prefix("write_") {
+        return Ok(Some(Job::Write(number(words)?, number(words)?, number(words)?, figure(written, words)?)));
+    }
     Ok(Some(match name {
         "list" => Job::List(numbers(words)?, numbers(words)?),
         "pen_begin" => Job::Begin(numbers(words)?),
@@ -185,10 +231,7 @@ impl FromStr for Case {
             return Ok(Case { held, job: fill(size, words)? });
         }
         if name == "file" {
-            let digits = words.next().unwrap_or("");
-            let byte = |at| digits.get(at..at + 2).and_then(|pair| u8::from_str_radix(pair, 16).ok());
-            let bytes: Option<Vec<u8>> = (0..digits.len()).step_by(2).map(byte).collect();
-            return Ok(Case { held, job: Job::File(size, bytes.ok_or("bytes are pairs of digits")?) });
+            return Ok(Case { held, job: Job::File(size, bytes(words)?) });
         }
         let ink = number(words)?;
         if name.ends_with("_metres") {
@@ -201,15 +244,7 @@ impl FromStr for Case {
             };
             return Ok(Case { held, job: Job::Metres(size, ink, Survey { east, north, size: cell_size }, figure) });
         }
-        let figure = match name {
-            "line" => Cells::Line(numbers(words)?),
-            "circle" => Cells::Circle(numbers(words)?, number(words)?),
-            "ellipse" => Cells::Ellipse(numbers(words)?, number(words)?, number(words)?),
-            "curve" => Cells::Curve(numbers(words)?, number(words)?),
-            "cubic" => Cells::Cubic(numbers(words)?, number(words)?),
-            _ => return Err(format!("no export is named {name}")),
-        };
-        Ok(Case { held, job: Job::Cells(size, ink, figure) })
+        Ok(Case { held, job: Job::Cells(size, ink, figure(name, words)?) })
     }
 }
 
@@ -220,7 +255,7 @@ mod tests {
     #[test]
     fn a_case_is_read_back_as_it_was_written() {
         for seed in 0..2000 {
-            let makes = [Case::figure, Case::file, Case::damaged, Case::pen, Case::fill];
+            let makes = [Case::figure, Case::file, Case::damaged, Case::pen, Case::fill, Case::write];
             for case in makes.map(|make| make(seed)) {
                 let text = case.to_string();
                 let again: Case = text.parse().unwrap();

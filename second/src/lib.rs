@@ -4,6 +4,7 @@ pub mod chance;
 mod chance_crossing;
 mod chance_file;
 mod chance_fill;
+mod chance_write;
 pub mod crossing;
 pub mod file;
 pub mod ground;

@@ -20,6 +20,15 @@ mod declared {
         pub fn pw_pen_next(pen: *mut super::Pen, x: *mut i32, y: *mut i32) -> u32;
         pub fn pw_file(sheet: *mut u8, len: usize, width: u32, height: u32, pitch: u32,
                        file: *const u8, n: usize, value: *mut u64) -> u32;
+        pub fn pw_write_line(buffer: *mut u8, len: usize, filled: *mut u64, ink: u8,
+                             x0: i32, y0: i32, x1: i32, y1: i32) -> u32;
+        pub fn pw_write_circle(buffer: *mut u8, len: usize, filled: *mut u64, ink: u8, x: i32, y: i32, r: u32) -> u32;
+        pub fn pw_write_ellipse(buffer: *mut u8, len: usize, filled: *mut u64, ink: u8,
+                                x: i32, y: i32, a: u32, b: u32) -> u32;
+        pub fn pw_write_curve(buffer: *mut u8, len: usize, filled: *mut u64, ink: u8,
+                              x0: i32, y0: i32, x1: i32, y1: i32, x2: i32, y2: i32, s: u32) -> u32;
+        pub fn pw_write_cubic(buffer: *mut u8, len: usize, filled: *mut u64, ink: u8, x0: i32, y0: i32,
+                              x1: i32, y1: i32, x2: i32, y2: i32, x3: i32, y3: i32, s: u32) -> u32;
         pub fn pw_line_metres(sheet: *mut u8, len: usize, width: u32, height: u32, pitch: u32, ink: u8,
                               east: f64, north: f64, size: f64,
                               x0: f64, y0: f64, x1: f64, y1: f64, cells: *mut u32) -> u32;
@@ -36,7 +45,7 @@ pub struct Lent<'a> {
     pub pitch: u32,
 }
 
-/// A figure in cells, with the types of the header; a circle is drawn as the ellipse of equal axes.
+/// A figure in cells, with the types of the header; a circle is drawn as the ellipse of equal axes, but written as itself.
 #[derive(Clone, Copy, Debug)]
 pub enum Cells {
     Line([i32; 4]),
@@ -130,4 +139,22 @@ pub fn file(lent: Lent, file: &[u8], value: &mut u64) -> u32 {
     let (sheet, len) = (bytes.as_mut_ptr(), bytes.len());
     // SAFETY: as in `draw`; the library only reads the file.
     unsafe { declared::pw_file(sheet, len, w, h, pitch, file.as_ptr(), file.len(), value) }
+}
+
+pub fn write(buffer: &mut [u8], filled: &mut u64, ink: u8, figure: Cells) -> u32 {
+    let (buffer, len) = (buffer.as_mut_ptr(), buffer.len());
+    // SAFETY: as in `draw`.
+    unsafe {
+        match figure {
+            Cells::Line([x0, y0, x1, y1]) => declared::pw_write_line(buffer, len, filled, ink, x0, y0, x1, y1),
+            Cells::Circle([x, y], r) => declared::pw_write_circle(buffer, len, filled, ink, x, y, r),
+            Cells::Ellipse([x, y], a, b) => declared::pw_write_ellipse(buffer, len, filled, ink, x, y, a, b),
+            Cells::Curve([x0, y0, x1, y1, x2, y2], s) => {
+                declared::pw_write_curve(buffer, len, filled, ink, x0, y0, x1, y1, x2, y2, s)
+            }
+            Cells::Cubic([x0, y0, x1, y1, x2, y2, x3, y3], s) => {
+                declared::pw_write_cubic(buffer, len, filled, ink, x0, y0, x1, y1, x2, y2, x3, y3, s)
+            }
+        }
+    }
 }

@@ -1,28 +1,32 @@
 //! One case, drawn by the library between guard pages and by the second program, and compared.
-use crate::case::{places, Case, Job, Size, MOST_BYTES, MOST_PLACES, MOST_WORK};
+use crate::case::{places, Case, Job, Size, MOST_BUFFER, MOST_BYTES, MOST_PLACES, MOST_WORK};
 use crate::guard::{Against, Guarded};
 use crate::native::{self, Cells, Lent};
 use crate::pen::{self, Call};
 use crate::random::Random;
 use crate::rule::{Cell, Figure, Reply, Rules, Shape, Sheet};
+use crate::writer::Buffer;
 use std::fmt::Display;
 
 /// The room for everything that a case lends to the library.
 pub struct Room {
     sheet: Guarded,
     work: Guarded,
+    buffer: Guarded,
     lists: [Guarded; 2],
     file: Guarded,
     value: Guarded,
     pen: pen::Room,
 }
 
-/// What a case leaves behind: reply, value, the sheet, the work slice, the two lists, and each call of a pen.
+/// What a case leaves behind: reply, value or filled count, the sheet, the work slice, the buffer that is written to, the
+/// two lists, and each call of a pen.
 struct Outcome {
     number: u32,
     value: u64,
     sheet: Vec<u8>,
     work: Vec<u32>,
+    buffer: Vec<u8>,
     lists: [Vec<i32>; 2],
     calls: Vec<Call>,
 }
@@ -33,6 +37,7 @@ impl Default for Room {
         Room {
             sheet: Guarded::with_room(MOST_BYTES),
             work: Guarded::with_room(4 * MOST_WORK),
+            buffer: Guarded::with_room(MOST_BUFFER),
             lists: [places(), places()],
             file: Guarded::with_room(1 << 16),
             value: Guarded::with_room(8),
@@ -42,7 +47,8 @@ impl Default for Room {
 }
 
 impl Room {
-    /// Draws a case both ways: the reply that both gave and whether a sheet, list or pen changed, or what differs.
+    /// Draws a case both ways: the reply that both gave and whether its sheet changed or, where it has none, a buffer, list or
+    /// pen; or what differs.
     pub fn compare(&mut self, rules: &Rules, case: &Case) -> Result<(u32, bool), String> {
         let before = Outcome::before(case);
         let mut expected = Outcome::before(case);
@@ -55,8 +61,12 @@ impl Room {
             }
         }
         let pen = |outcome: &Outcome| outcome.calls.first().map(|call| call.pen);
-        let changed =
-            expected.sheet != before.sheet || expected.lists != before.lists || pen(&expected) != pen(&before);
+        let changed = match case.job.size() {
+            Some(_) => expected.sheet != before.sheet,
+            None => {
+                expected.buffer != before.buffer || expected.lists != before.lists || pen(&expected) != pen(&before)
+            }
+        };
         Ok((expected.number, changed))
     }
 
@@ -65,6 +75,8 @@ impl Room {
         sheet.copy_from_slice(&before.sheet);
         let work = self.work.lend::<u32>(before.work.len(), against);
         work.copy_from_slice(&before.work);
+        let buffer = self.buffer.lend::<u8>(before.buffer.len(), against);
+        buffer.copy_from_slice(&before.buffer);
         let [xs, ys] = self.lists.each_mut();
         let (xs, ys) = (xs.lend::<i32>(before.lists[0].len(), against), ys.lend::<i32>(before.lists[1].len(), against));
         xs.copy_from_slice(&before.lists[0]);
@@ -100,10 +112,16 @@ impl Room {
                 }
                 (number, *value)
             }
+            Job::Write(_, _, ink, figure) => {
+                let filled = &mut self.value.lend::<u64>(1, against)[0];
+                *filled = before.value;
+                (native::write(buffer, filled, *ink, *figure), *filled)
+            }
         };
         same("reply", &[number], &[expected.number])?;
         same("value", &[value], &[expected.value])?;
         same("byte", sheet, &expected.sheet)?;
+        same("byte of the buffer", buffer, &expected.buffer)?;
         // a done fill may leave anything in its work slice, a refused one what was there
         if number != 0 {
             same("work", work, &expected.work)?;
@@ -129,14 +147,11 @@ impl Outcome {
         let mut random = Random(case.held);
         // an export that tells its value in 32 bits is lent 32 bits
         let most = if matches!(case.job, Job::File(..)) { u64::MAX } else { u64::from(u32::MAX) };
-        let value = random.number() & most;
-        let (mut sheet, mut work, mut lists, mut calls) =
-            (Vec::new(), Vec::new(), [Vec::new(), Vec::new()], Vec::new());
+        let mut value = random.number() & most;
+        let (mut sheet, mut work, mut buffer) = (Vec::new(), Vec::new(), Vec::new());
+        let (mut lists, mut calls) = ([Vec::new(), Vec::new()], Vec::new());
         match &case.job {
-            Job::Cells(size, ..) | Job::Metres(size, ..) | Job::File(size, _) => {
-                sheet.resize(size.len, 0);
-                random.fill(&mut sheet);
-            }
+            Job::Cells(size, ..) | Job::Metres(size, ..) | Job::File(size, _) => sheet = random.bytes(size.len),
             Job::Fill(size, fill, places, ground) => {
                 sheet.resize(size.len, 0);
                 ground.lay(&mut random, &mut Sheet { shape: size.shape(), bytes: &mut sheet }, *fill);
@@ -148,8 +163,9 @@ impl Outcome {
                 calls.push(Call::before(&mut random, None));
             }
             Job::Next(pen) => calls.push(Call::before(&mut random, Some(*pen))),
+            Job::Write(len, filled, ..) => (value, buffer) = (*filled, random.bytes(*len)),
         }
-        Outcome { number: 0, value, sheet, work, lists, calls }
+        Outcome { number: 0, value, sheet, work, buffer, lists, calls }
     }
 
     fn by_rules(&mut self, rules: &Rules, job: &Job) {
@@ -164,6 +180,11 @@ impl Outcome {
             Job::File(_, bytes) => rules.draw_file(&mut sheet, bytes),
             Job::Fill(_, fill, ..) => rules.fill(&mut sheet, *fill, &mut self.work),
             Job::Next(_) => Reply { number: self.calls[0].number, value: None },
+            Job::Write(_, _, ink, figure) => {
+                let mut buffer = Buffer { bytes: &mut self.buffer, filled: self.value };
+                let number = rules.write(&mut buffer, *ink, &widened(figure));
+                Reply { number, value: Some(buffer.filled) }
+            }
             Job::List(_, ends) | Job::Begin(ends) => {
                 let [x0, y0, x1, y1] = ends.map(i64::from);
                 let [xs, ys] = &mut self.lists;

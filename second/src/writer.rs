@@ -174,8 +174,7 @@ mod tests {
         for seed in 0..2000 {
             let mut random = Random(seed);
             let figures: Vec<(u8, Figure)> = (0..).zip(figures(&mut random)).collect();
-            let mut bytes = vec![0; 80];
-            random.fill(&mut bytes);
+            let mut bytes = random.bytes(80);
             let mut buffer = Buffer { bytes: &mut bytes, filled: 0 };
             for (ink, figure) in &figures {
                 assert_eq!(rules.write(&mut buffer, *ink, figure), 0);

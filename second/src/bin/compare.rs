@@ -1,6 +1,8 @@
-//! Compares the proved library with the second drawing program on random figures, files, damaged files, pens and fills.
+//! Compares the proved library with the second drawing program on random figures, files, damaged files, pens, fills
+//! and writes of one figure.
 //!
-//!     compare [KIND] [COUNT] [SEED]    COUNT cases of each kind, or of this one: figures, files, damaged, pens, fills
+//!     compare [KIND] [COUNT] [SEED]    COUNT cases of each kind, or of this one: figures, files, damaged, pens, fills,
+//!                                      writes
 //!     compare --one CASE               one case, as a difference prints it
 //!     compare --teeth                  wrong second programs, each of which must be caught
 use second::case::{Case, Job};
@@ -24,12 +26,13 @@ const PATIENCE: u64 = 100_000;
 type Make = fn(u64) -> Case;
 
 /// Each kind of case: the word that asks for it, and what its cases are called.
-const KINDS: [(&str, &str, Make); 5] = [
+const KINDS: [(&str, &str, Make); 6] = [
     ("figures", "figures", Case::figure),
     ("files", "files", Case::file),
     ("damaged", "damaged files", Case::damaged),
     ("pens", "pens", Case::pen),
     ("fills", "fills", Case::fill),
+    ("writes", "writes", Case::write),
 ];
 
 thread_local! {
@@ -63,7 +66,7 @@ fn case(make: Make, seed: u64, i: u64) -> Case {
     make(nth_seed(seed, i))
 }
 
-/// How often an export gave each reply, how often it changed a sheet, list or pen, and how often a sheet with padding.
+/// How often an export gave each reply, how often it changed a sheet, buffer, list or pen, and how often a sheet with padding.
 #[derive(Default)]
 struct Seen {
     replies: [u64; 19],
