@@ -1,4 +1,5 @@
 //! One input of the library: written as one line, and read back from it.
+use crate::again::{Again, Thrown};
 use crate::ground::Ground;
 use crate::metres::{Metres, Survey};
 use crate::native::{Cells, Fill, Pen};
@@ -35,6 +36,8 @@ pub enum Job {
     Fill(Size, Fill, usize, Ground),
     /// A figure is written to a buffer of this length, of which so many bytes are said to be filled.
     Write(usize, u64, u8, Cells),
+    /// A file is read, and its figures are written again.
+    Again(Again),
 }
 
 /// A job, and the seed of what the lent buffers hold before it.
@@ -61,7 +64,7 @@ pub fn places([x0, y0, x1, y1]: [i32; 4]) -> usize {
 }
 
 impl Job {
-    /// The export's name after its pw_; but a circle, drawn by that of ellipses, has its own.
+    /// The export's name after its pw_; but a circle, drawn by that of ellipses, and a file written again have their own.
     pub fn name(&self) -> &'static str {
         match self {
             Job::Cells(_, _, figure) => figure.name(),
@@ -78,6 +81,7 @@ impl Job {
             Job::Write(.., Cells::Ellipse(..)) => "write_ellipse",
             Job::Write(.., Cells::Curve(..)) => "write_curve",
             Job::Write(.., Cells::Cubic(..)) => "write_cubic",
+            Job::Again(_) => "again",
         }
     }
 
@@ -85,6 +89,7 @@ impl Job {
     pub fn size(&self) -> Option<Size> {
         match self {
             Job::Cells(size, ..) | Job::Metres(size, ..) | Job::File(size, _) | Job::Fill(size, ..) => Some(*size),
+            Job::Again(again) => Some(again.size),
             Job::List(..) | Job::Begin(_) | Job::Next(_) | Job::Write(..) => None,
         }
     }
@@ -157,6 +162,13 @@ impl fmt::Display for Case {
                 write!(to, " {size}{} {boundary} {territory} {places} {ground}", words(start))
             }
             Job::Write(len, filled, ink, figure) => write!(to, " {len} {filled} {ink}{}", figure.words()),
+            Job::Again(Again { size, room, thrown, file }) => {
+                write!(to, " {size} {room} {}", thrown.len())?;
+                for Thrown { after, ink, figure } in thrown {
+                    write!(to, " {after} {} {ink}{}", figure.name(), figure.words())?;
+                }
+                write!(to, " {}", digits(file))
+            }
         }
     }
 }
@@ -215,6 +227,17 @@ fn fill(size: Size, words: &mut SplitWhitespace) -> Result<Job, String> {
     Ok(Job::Fill(size, fill, places, ground))
 }
 
+/// A file that is written again, after the sheet.
+fn again(size: Size, words: &mut SplitWhitespace) -> Result<Job, String> {
+    let (room, count) = (number(words)?, number::<usize>(words)?);
+    let mut thrown = Vec::new();
+    for _ in 0..count {
+        let (after, name) = (number(words)?, words.next().ok_or("a figure is missing")?);
+        thrown.push(Thrown { after, ink: number(words)?, figure: figure(name, words)? });
+    }
+    Ok(Job::Again(Again { size, room, thrown, file: bytes(words)? }))
+}
+
 impl FromStr for Case {
     type Err = String;
 
@@ -229,6 +252,9 @@ impl FromStr for Case {
         let size = Size { len: number(words)?, width: number(words)?, height: number(words)?, pitch: number(words)? };
         if name == "fill" {
             return Ok(Case { held, job: fill(size, words)? });
+        }
+        if name == "again" {
+            return Ok(Case { held, job: again(size, words)? });
         }
         if name == "file" {
             return Ok(Case { held, job: Job::File(size, bytes(words)?) });
@@ -255,7 +281,7 @@ mod tests {
     #[test]
     fn a_case_is_read_back_as_it_was_written() {
         for seed in 0..2000 {
-            let makes = [Case::figure, Case::file, Case::damaged, Case::pen, Case::fill, Case::write];
+            let makes = [Case::figure, Case::file, Case::damaged, Case::pen, Case::fill, Case::write, Case::again];
             for case in makes.map(|make| make(seed)) {
                 let text = case.to_string();
                 let again: Case = text.parse().unwrap();

@@ -103,7 +103,7 @@ pub fn sized(random: &mut Random, mut width: i64, mut height: i64) -> Size {
 }
 
 /// A pitch for rows of this width, mostly with padding after them.
-fn pitch(random: &mut Random, width: i64) -> i64 {
+pub fn pitch(random: &mut Random, width: i64) -> i64 {
     match random.number() % 64 {
         0..16 => width,
         16 => random.within(width, 8192.min(width + 400)),

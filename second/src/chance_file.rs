@@ -37,7 +37,7 @@ pub fn of_kind(random: &mut Random, size: Size, kind: u64) -> Cells {
 }
 
 /// A small figure that is within the limits.
-fn sound(random: &mut Random) -> Cells {
+pub fn sound(random: &mut Random) -> Cells {
     let points @ [x, y, x1, y1, x2, y2, ..] = [(); 8].map(|()| random.within(-99, 99) as i32);
     let zeros = random.once_in(12);
     let [a, b] = [(); 2].map(|()| if zeros { 0 } else { random.within(1, 99) as u32 });

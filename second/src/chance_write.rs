@@ -1,10 +1,13 @@
-//! What is written to a buffer at random: one figure to any buffer.
+//! What is written to a buffer at random: one figure to any buffer, and sound files again.
+use crate::again::{Again, Thrown};
 use crate::case::{Case, Job, Size};
-use crate::chance_file::of_kind;
+use crate::chance::pitch;
+use crate::chance_file::{file, of_kind, sound};
 use crate::native::Cells;
 use crate::random::Random;
+use crate::rule::Rules;
 use crate::run::widened;
-use crate::writer::record;
+use crate::writer::{record, Buffer};
 
 impl Case {
     /// One figure, within the limits or not, and a buffer of any length that is filled to any count.
@@ -14,6 +17,23 @@ impl Case {
         let (ink, figure) = (random.number() as u8, any(&mut random, size));
         let (len, filled) = buffer(&mut random, taken(figure));
         Case { held: random.number(), job: Job::Write(len, filled, ink, figure) }
+    }
+
+    /// A file that is accepted, and a buffer that has room for it.
+    pub fn again(seed: u64) -> Case {
+        let mut random = Random(seed);
+        let (width, height) = (random.within(1, 16), random.within(1, 16));
+        let pitch = pitch(&mut random, width);
+        let size =
+            Size { len: (pitch * height) as usize, width: width as u32, height: height as u32, pitch: pitch as u32 };
+        let joined = if random.once_in(50) { random.within(4, 60) } else { random.within(1, 3) };
+        let file: Vec<u8> = (0..joined).flat_map(|_| sound_records(&file(&mut random, size))).collect();
+        let room = file.len() + random.one_of(&[0, 0, 0, 0, 1, 2, 10, 11, 12, 13, 17, 21, 22, 100]);
+        let mut again = Again { size, room, thrown: Vec::new(), file };
+        if random.once_in(2) {
+            throw_in(&mut random, &mut again);
+        }
+        Case { held: random.number(), job: Job::Again(again) }
     }
 }
 
@@ -87,6 +107,46 @@ fn buffer(random: &mut Random, taken: u64) -> (usize, u64) {
     (len as usize, filled)
 }
 
+/// The records of a file that are sound by themselves.
+fn sound_records(mut file: &[u8]) -> Vec<u8> {
+    let mut kept = Vec::new();
+    while let [low, high, ..] = *file {
+        let taken = 2 + usize::from(u16::from_le_bytes([low, high]));
+        let (record, rest) = file.split_at(taken.min(file.len()));
+        if Rules::document().read(record, |_, _| ()).is_ok() {
+            kept.extend(record);
+        }
+        file = rest;
+    }
+    kept
+}
+
+/// Throws in figures at random, of those that the rules refuse where they are thrown in.
+fn throw_in(random: &mut Random, again: &mut Again) {
+    let mut filled = vec![0];
+    let counted = Rules::document().read(&again.file, |ink, figure| {
+        let before = filled[filled.len() - 1];
+        filled.push(before + record(ink, &figure).len() as u64);
+    });
+    assert_eq!(counted, Ok(()), "a file that is written again is sound");
+    let mut tried = vec![0; again.room];
+    for _ in 0..random.within(1, 4) {
+        let last = filled.len() - 1;
+        // a sound one is seldom refused but at the end
+        let (after, figure) = if random.once_in(2) {
+            (last, sound(random))
+        } else {
+            let figure = any(random, again.size);
+            (random.within(0, last as i64) as usize, spoilt(random, figure))
+        };
+        let mut buffer = Buffer { bytes: &mut tried, filled: filled[after] };
+        let ink = random.number() as u8;
+        if Rules::document().write(&mut buffer, ink, &widened(&figure)) != 0 {
+            again.thrown.push(Thrown { after, ink, figure });
+        }
+    }
+}
+
 #[cfg(test)]
 mod tests {
     use super::*;
@@ -144,5 +204,24 @@ mod tests {
             }
         }
         all_seen(&seen, 20, &sorts(0, 0, 0, true).map(|(what, _)| what));
+    }
+
+    #[test]
+    fn files_are_sound_and_what_is_thrown_in_is_refused() {
+        let (mut seen, mut thrown, mut exact, mut long) = (Seen::new(), BTreeMap::new(), 0, 0);
+        for seed in 0..5000 {
+            let Job::Again(again) = Case::again(seed).job else { unreachable!() };
+            let count = |_, figure: Figure| *seen.entry((kind(&figure), "read")).or_default() += 1;
+            assert_eq!(Rules::document().read(&again.file, count), Ok(()));
+            for Thrown { figure, .. } in &again.thrown {
+                let number = refusal(&widened(figure)).map_or(11, |(number, _)| number);
+                *thrown.entry(number).or_insert(0) += 1;
+            }
+            exact += u32::from(again.room == again.file.len());
+            long += u32::from(again.file.len() > 1000);
+        }
+        all_seen(&seen, 1000, &["read"]);
+        assert!([2, 3, 4, 11].iter().all(|number| thrown[number] >= 100), "thrown in: {thrown:?}");
+        assert!(exact >= 1000 && long >= 20, "{exact} are as long as the buffer, {long} long");
     }
 }

@@ -1,4 +1,5 @@
 //! A second drawing program, written from documents 01 and 02 by membership, and what compares it with the library.
+pub mod again;
 pub mod case;
 pub mod chance;
 mod chance_crossing;

@@ -54,7 +54,7 @@ impl Room {
         let mut expected = Outcome::before(case);
         expected.by_rules(rules, &case.job);
         for against in [Against::Before, Against::After] {
-            self.by_library(&before, &expected, &case.job, against)?;
+            self.by_library(rules, &before, &expected, &case.job, against)?;
             if let Some(lent) = before.calls.first() {
                 let calls = self.pen.by_library(*lent, case.job.begins(), expected.calls.len(), against);
                 same("call", &calls, &expected.calls)?;
@@ -70,7 +70,14 @@ impl Room {
         Ok((expected.number, changed))
     }
 
-    fn by_library(&mut self, before: &Outcome, expected: &Outcome, job: &Job, against: Against) -> Result<(), String> {
+    fn by_library(
+        &mut self,
+        rules: &Rules,
+        before: &Outcome,
+        expected: &Outcome,
+        job: &Job,
+        against: Against,
+    ) -> Result<(), String> {
         let sheet = self.sheet.lend::<u8>(before.sheet.len(), against);
         sheet.copy_from_slice(&before.sheet);
         let work = self.work.lend::<u32>(before.work.len(), against);
@@ -117,6 +124,13 @@ impl Room {
                 *filled = before.value;
                 (native::write(buffer, filled, *ink, *figure), *filled)
             }
+            Job::Again(again) => {
+                let value = &mut self.value.lend::<u64>(1, against)[0];
+                again.write(rules, buffer, value)?;
+                let written = &buffer[..*value as usize];
+                *value = before.value;
+                (native::file(Lent { bytes: sheet, width, height, pitch }, written, value), *value)
+            }
         };
         same("reply", &[number], &[expected.number])?;
         same("value", &[value], &[expected.value])?;
@@ -146,7 +160,7 @@ impl Outcome {
     fn before(case: &Case) -> Outcome {
         let mut random = Random(case.held);
         // an export that tells its value in 32 bits is lent 32 bits
-        let most = if matches!(case.job, Job::File(..)) { u64::MAX } else { u64::from(u32::MAX) };
+        let most = if matches!(case.job, Job::File(..) | Job::Again(_)) { u64::MAX } else { u64::from(u32::MAX) };
         let mut value = random.number() & most;
         let (mut sheet, mut work, mut buffer) = (Vec::new(), Vec::new(), Vec::new());
         let (mut lists, mut calls) = ([Vec::new(), Vec::new()], Vec::new());
@@ -164,6 +178,7 @@ impl Outcome {
             }
             Job::Next(pen) => calls.push(Call::before(&mut random, Some(*pen))),
             Job::Write(len, filled, ..) => (value, buffer) = (*filled, random.bytes(*len)),
+            Job::Again(again) => (sheet, buffer) = (random.bytes(again.size.len), random.bytes(again.room)),
         }
         Outcome { number: 0, value, sheet, work, buffer, lists, calls }
     }
@@ -185,6 +200,7 @@ impl Outcome {
                 let number = rules.write(&mut buffer, *ink, &widened(figure));
                 Reply { number, value: Some(buffer.filled) }
             }
+            Job::Again(again) => again.by_rules(rules, &mut sheet, &mut self.buffer),
             Job::List(_, ends) | Job::Begin(ends) => {
                 let [x0, y0, x1, y1] = ends.map(i64::from);
                 let [xs, ys] = &mut self.lists;
