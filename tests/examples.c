@@ -1,4 +1,5 @@
-/* examples.c: the checked examples of document 01 that are not starred, those of rings with axes of 0 and of cubics, each by its words through the library; the last line counts. */
+/* examples.c: the checked examples of document 01 that are not starred, those of rings with axes of 0, of cubics and of writing
+ * records, each by its words through the library; the last line counts. */
 #include <stdio.h>
 #include <string.h>
 
@@ -92,6 +93,152 @@ static void cubics(void) {
     }
 }
 
+/* what is written: a record of each kind by its numbers in their order, after the ink 1, of which the first are coordinates, and
+ * its bytes */
+static const struct written {
+    const char *word;
+    int kind, coordinates, numbers;
+    int64_t n[9];
+    size_t size;
+    uint8_t bytes[22];
+} records[] = {
+    {"line", 1, 4, 4, {0, 0, 2, 1}, 13, {11, 0, 1, 0, 1, 0, 0, 0, 0, 2, 0, 1, 0}},
+    {"circle", 2, 2, 3, {-1, 2, 3}, 11, {9, 0, 2, 0, 1, 255, 255, 2, 0, 3, 0}},
+    {"ellipse", 3, 2, 4, {-1, 2, 3, 3}, 13, {11, 0, 3, 0, 1, 255, 255, 2, 0, 3, 0, 3, 0}},
+    {"curve", 4, 6, 7, {0, 0, 2, 4, 4, 0, 1}, 18, {16, 0, 4, 0, 1, 0, 0, 0, 0, 2, 0, 4, 0, 4, 0, 0, 0, 1}},
+    {"cubic", 5, 8, 9, {9, 0, 0, 4, 259, 4, 4, 0, 6}, 22,
+     {20, 0, 5, 0, 1, 9, 0, 0, 0, 0, 0, 4, 0, 3, 1, 4, 0, 4, 0, 0, 0, 6}},
+};
+enum { KINDS = sizeof records / sizeof *records };
+
+/* the lent buffer, what it held before, and how much of it is filled */
+static uint8_t buffer[96], before[sizeof buffer];
+static uint64_t filled;
+
+static uint32_t append(int kind, const int64_t *n, size_t len) {
+    switch (kind) {
+    case 1: return pw_write_line(buffer, len, &filled, 1, n[0], n[1], n[2], n[3]);
+    case 2: return pw_write_circle(buffer, len, &filled, 1, n[0], n[1], n[2]);
+    case 3: return pw_write_ellipse(buffer, len, &filled, 1, n[0], n[1], n[2], n[3]);
+    case 4: return pw_write_curve(buffer, len, &filled, 1, n[0], n[1], n[2], n[3], n[4], n[5], n[6]);
+    default: return pw_write_cubic(buffer, len, &filled, 1, n[0], n[1], n[2], n[3], n[4], n[5], n[6], n[7], n[8]);
+    }
+}
+
+/* holds a record's reply, the filled count and every byte of the buffer to what they should be; it begins as bytes of 170 */
+static void writes(const struct written *r, const char *example, size_t len, uint64_t from, uint32_t number) {
+    char said[128];
+    memset(buffer, 170, sizeof buffer);
+    memset(before, 170, sizeof before);
+    filled = from;
+    snprintf(said, sizeof said, "%s: %s", r->word, example);
+    same(said, append(r->kind, r->n, len), number);
+    if (number == PW_DONE)
+        memcpy(before + from, r->bytes, r->size);
+    snprintf(said, sizeof said, "%s: %s: the filled count and all bytes", r->word, example);
+    same(said, filled == from + (number == PW_DONE ? r->size : 0) && memcmp(before, buffer, sizeof buffer) == 0, 1);
+}
+
+/* the same record with its ith number another, which is refused; and so it is where no byte is free */
+static void refuses(const struct written *r, int i, int64_t n, uint32_t number) {
+    struct written other = *r;
+    char example[64];
+    other.n[i] = n;
+    snprintf(example, sizeof example, "number %d of %lld is refused with %u", i, (long long)n, number);
+    writes(&other, example, sizeof buffer, 7, number);
+    writes(&other, example, 0, 0, number);
+}
+
+/* the same record with its ith number another, of so many bytes, which is written */
+static void takes(const struct written *r, int i, int64_t n, int bytes) {
+    struct written other = *r;
+    char example[64];
+    other.n[i] = n;
+    other.bytes[5 + 2 * i] = (uint8_t)n;
+    if (bytes == 2)
+        other.bytes[6 + 2 * i] = (uint8_t)(n >> 8);
+    snprintf(example, sizeof example, "number %d of %lld is written", i, (long long)n);
+    writes(&other, example, sizeof buffer, 7, PW_DONE);
+}
+
+/* the limits of each number, and beyond them also what would be within them in 8 or 16 bits */
+static void written_limits(const struct written *r) {
+    static const int64_t far[] = {-16385, 16384, -65536, 65536, INT32_MIN, INT32_MAX}, large[] = {16384, 65537, UINT32_MAX};
+    static const int64_t pieces[] = {7, 256, UINT32_MAX};
+    int last = r->numbers - 1;
+    for (int i = 0; i < r->coordinates; i++) {
+        takes(r, i, -16384, 2);
+        takes(r, i, 16383, 2);
+        for (size_t f = 0; f < sizeof far / sizeof *far; f++)
+            refuses(r, i, far[f], PW_COORDINATE);
+    }
+    if (r->kind == 2 || r->kind == 3)
+        for (int i = r->coordinates; i <= last; i++) {
+            takes(r, i, 16383, 2);
+            for (size_t f = 0; f < sizeof large / sizeof *large; f++)
+                refuses(r, i, large[f], PW_RADIUS);
+        }
+    if (r->kind == 4 || r->kind == 5) {
+        takes(r, last, 0, 1);
+        takes(r, last, 6, 1);
+        for (size_t f = 0; f < sizeof pieces / sizeof *pieces; f++)
+            refuses(r, last, pieces[f], PW_PIECES);
+    }
+    /* of two numbers that are wrong, a coordinate is told first */
+    if (r->kind > 1) {
+        struct written both = *r;
+        both.n[last] = UINT32_MAX;
+        refuses(&both, r->coordinates - 1, 16384, PW_COORDINATE);
+    }
+}
+
+/* document 02, K1 */
+static void writers(void) {
+    static const struct written none[] = {
+        {"circle of radius 0", 2, 2, 3, {1, 2, 0}, 11, {9, 0, 2, 0, 1, 1, 0, 2, 0, 0, 0}},
+        {"ellipse of axes 0", 3, 2, 4, {1, 2, 0, 0}, 13, {11, 0, 3, 0, 1, 1, 0, 2, 0, 0, 0, 0, 0}}};
+    for (const struct written *r = records; r < records + KINDS; r++) {
+        writes(r, "written into an empty buffer", sizeof buffer, 0, PW_DONE);
+        writes(r, "written with exactly the room it takes", 7 + r->size, 7, PW_DONE);
+        writes(r, "one byte short is refused with 11", 6 + r->size, 7, PW_FULL);
+        writes(r, "no byte is refused with 11", 0, 0, PW_FULL);
+        writes(r, "a full buffer is refused with 11", 7, 7, PW_FULL);
+        /* a filled count above the length: no byte is free, also where the sum or 32 bits of it would be small */
+        writes(r, "filled one above the length is refused with 11", sizeof buffer, sizeof buffer + 1, PW_FULL);
+        writes(r, "filled 2^32 is refused with 11", sizeof buffer, (uint64_t)1 << 32, PW_FULL);
+        writes(r, "filled so that the sum is 0 is refused with 11", sizeof buffer, 0 - (uint64_t)r->size, PW_FULL);
+        writes(r, "filled 2^64 - 1 is refused with 11", sizeof buffer, UINT64_MAX, PW_FULL);
+        written_limits(r);
+    }
+    writes(&none[0], "written", sizeof buffer, 0, PW_DONE);
+    writes(&none[1], "written", sizeof buffer, 0, PW_DONE);
+    /* a single axis of 0, the one or the other */
+    refuses(&records[2], 2, 0, PW_RADIUS);
+    refuses(&records[2], 3, 0, PW_RADIUS);
+
+    /* one after another, each leaves a file that is drawn: its records are counted, and a refusal between them is in none */
+    filled = 0;
+    clear();
+    for (size_t i = 0; i < KINDS; i++) {
+        static const int64_t beyond[9] = {16384};
+        same("a record after others is written", append(records[i].kind, records[i].n, sizeof buffer), PW_DONE);
+        same("one beyond the limits is not", append(records[i].kind, beyond, sizeof buffer), PW_COORDINATE);
+        same("what is written is a file", file((const char *)buffer, filled), PW_DONE);
+        same("of as many records", (long long)value, (long long)i + 1);
+    }
+    uint8_t drawn[sizeof sheet];
+    uint32_t cells;
+    memcpy(drawn, sheet, sizeof sheet);
+    clear();
+    pw_line(sheet, sizeof sheet, WIDTH, HEIGHT, WIDTH, 1, 0, 0, 2, 1, &cells);
+    pw_ellipse(sheet, sizeof sheet, WIDTH, HEIGHT, WIDTH, 1, -1, 2, 3, 3);
+    pw_curve(sheet, sizeof sheet, WIDTH, HEIGHT, WIDTH, 1, 0, 0, 2, 4, 4, 0, 1);
+    pw_cubic(sheet, sizeof sheet, WIDTH, HEIGHT, WIDTH, 1, 9, 0, 0, 4, 259, 4, 4, 0, 6);
+    same("the file draws the figures that were written", memcmp(drawn, sheet, sizeof sheet), 0);
+    same("every ink is written", pw_write_circle(buffer, sizeof buffer, &filled, 255, 1, 2, 3), PW_DONE);
+    same("as it is", buffer[filled - 7], 255);
+}
+
 int main(void) {
     uint32_t cells;
 
@@ -139,6 +286,7 @@ int main(void) {
     same("a lone byte: at offset 0", (long long)value, 0);
 
     cubics();
+    writers();
 
     printf("%d passed, %d failed\n", passed, failed);
     return failed != 0;
