@@ -1,5 +1,4 @@
 /* speed.c: the proved library beside its rivals: the same figures in one run, best of several rounds, as a table. */
-#include <math.h>
 #include <stdio.h>
 #include <stdlib.h>
 #include <string.h>
@@ -15,13 +14,6 @@ enum { BESIDE = 3 };
 enum { BESIDE = 2 };
 #endif
 enum { ROUNDS = 15, MOST = 20000, CELLS = 300000, RECORDS = 200, FAR = 500, COPIED = 1 << 26 };
-
-static uint64_t state = 1;
-
-int32_t between(int32_t least, int32_t most) {
-    state = state * 6364136223846793005u + 1442695040888963407u;
-    return least + (int32_t)((state >> 33) % (uint64_t)(most - least + 1));
-}
 
 static size_t length(const struct sheet *s) {
     return (size_t)s->pitch * s->side;
@@ -88,53 +80,6 @@ static int whole_file(struct sheet *s, const struct figure *f) {
     if (pw_file(s->bytes, length(s), s->side, s->side, s->pitch, file, file_length, &records) != PW_DONE)
         exit(1);
     return 1;
-}
-
-/* a figure of this kind that lies wholly on the sheet */
-static struct figure some(enum kind kind, int32_t side) {
-    struct figure f = {.kind = kind, .s = 6};
-    int32_t last = side - 1;
-    if (kind == CIRCLE || kind == ELLIPSE) {
-        f.a = (uint32_t)between(side / 16, side / 2 - 1);
-        f.b = kind == CIRCLE ? f.a : (uint32_t)between(side / 16, side / 2 - 1);
-        f.x0 = between((int32_t)f.a, last - (int32_t)f.a);
-        f.y0 = between((int32_t)f.b, last - (int32_t)f.b);
-        return f;
-    }
-    f.x0 = between(0, last);
-    f.y0 = between(0, last);
-    f.x1 = between(0, last);
-    f.y1 = between(0, last);
-    f.x2 = between(0, last);
-    f.y2 = between(0, last);
-    f.x3 = between(0, last);
-    f.y3 = between(0, last);
-    return f;
-}
-
-/* a line through the sheet between two cells far outside it */
-static struct figure far_line(int32_t side) {
-    struct figure f = {.kind = LINE, .x0 = between(-8000, 8000), .y0 = between(-8000, 8000)};
-    f.x1 = 2 * between(0, side - 1) - f.x0;
-    f.y1 = 2 * between(0, side - 1) - f.y0;
-    return f;
-}
-
-static int in_limits(int32_t coordinate) {
-    return coordinate >= -16384 && coordinate <= 16383;
-}
-
-/* a ring that crosses the sheet, its centre up to its semi-axes away: a cell of the sheet lies on it at a random angle */
-static struct figure far_ring(enum kind kind, int32_t side) {
-    struct figure f = {.kind = kind};
-    do {
-        double angle = between(0, 65535) * (2 * acos(-1) / 65536);
-        f.a = (uint32_t)between(1000, 16383);
-        f.b = kind == CIRCLE ? f.a : (uint32_t)between(1000, 16383);
-        f.x0 = between(0, side - 1) + (int32_t)lround(f.a * cos(angle));
-        f.y0 = between(0, side - 1) + (int32_t)lround(f.b * sin(angle));
-    } while (!in_limits(f.x0) || !in_limits(f.y0));
-    return f;
 }
 
 /* how many cells the figure has on the sheet, which is left clear */

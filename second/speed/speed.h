@@ -31,6 +31,13 @@ struct sheet {
 
 /* a number from least to most */
 int32_t between(int32_t least, int32_t most);
+/* a figure of this kind that lies wholly on the sheet */
+struct figure some(enum kind kind, int32_t side);
+/* a line through the sheet between two cells far outside it */
+struct figure far_line(int32_t side);
+/* a ring that crosses the sheet, its centre up to its semi-axes away */
+struct figure far_ring(enum kind kind, int32_t side);
+
 /* lays the ground, ink 1 on ink 0, as what the sheet is to hold before; answers the fill that is measured on it */
 struct figure lay(struct sheet *sheet, enum ground ground);
 /* how many cells this fill sets, by the plain walk */
