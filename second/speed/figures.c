@@ -54,3 +54,14 @@ struct figure far_ring(enum kind kind, int32_t side) {
     } while (!in_limits(f.x0) || !in_limits(f.y0));
     return f;
 }
+
+struct figure any(enum kind kind) {
+    struct figure f = {.kind = kind};
+    int32_t *coordinates[] = {&f.x0, &f.y0, &f.x1, &f.y1, &f.x2, &f.y2, &f.x3, &f.y3};
+    for (size_t i = 0; i < sizeof coordinates / sizeof *coordinates; i++)
+        *coordinates[i] = between(-16384, 16383);
+    f.a = (uint32_t)between(1, 16383);
+    f.b = (uint32_t)between(1, 16383);
+    f.s = (uint32_t)between(0, 6);
+    return f;
+}

@@ -13,10 +13,18 @@ enum { BESIDE = 3 };
 #else
 enum { BESIDE = 2 };
 #endif
-enum { ROUNDS = 15, MOST = 20000, CELLS = 300000, RECORDS = 200, FAR = 500, COPIED = 1 << 26 };
+enum { ROUNDS = 15, MOST = 20000, CELLS = 300000, RECORDS = 200, WRITTEN = 10000, FAR = 500, WAYS = 5, COPIED = 1 << 26 };
 
 static size_t length(const struct sheet *s) {
     return (size_t)s->pitch * s->side;
+}
+
+/* stops where something is refused */
+static void done(uint32_t reply) {
+    if (reply != PW_DONE) {
+        fprintf(stderr, "speed: a figure was refused with %u\n", reply);
+        exit(1);
+    }
 }
 
 static int pistonwool(struct sheet *s, const struct figure *f) {
@@ -37,48 +45,39 @@ static int pistonwool(struct sheet *s, const struct figure *f) {
         reply = pw_fill(s->bytes, len, side, side, pitch, f->x0, f->y0, 1, 2, s->work, (size_t)side * side, &cells);
         break;
     }
-    if (reply != PW_DONE) {
-        fprintf(stderr, "speed: a figure was refused with %u\n", reply);
-        exit(1);
-    }
+    done(reply);
     return 1;
 }
 
-static uint8_t file[RECORDS * 22];
-static size_t file_length;
+/* the file, with room for one byte too many, and what C writes in its place */
+static uint8_t file[WRITTEN * 22 + 1], other[sizeof file];
+static uint64_t file_length, other_length;
 
-static void byte(uint32_t value) {
-    file[file_length++] = (uint8_t)value;
-}
-
-static void pair(int32_t value) {
-    byte((uint32_t)value & 255);
-    byte((uint32_t)value >> 8 & 255);
-}
-
+/* appends the figure's record to the file */
 static void record(const struct figure *f) {
-    static const uint8_t lengths[] = {[LINE] = 11, [CIRCLE] = 9, [ELLIPSE] = 11, [CURVE] = 16, [CUBIC] = 20};
-    static const uint8_t points[] = {[LINE] = 2, [CIRCLE] = 1, [ELLIPSE] = 1, [CURVE] = 3, [CUBIC] = 4};
-    const int32_t coordinates[] = {f->x0, f->y0, f->x1, f->y1, f->x2, f->y2, f->x3, f->y3};
-    pair(lengths[f->kind]);
-    pair(f->kind);
-    byte(1);
-    for (int i = 0; i < 2 * points[f->kind]; i++)
-        pair(coordinates[i]);
-    if (f->kind == CIRCLE || f->kind == ELLIPSE)
-        pair((int32_t)f->a);
-    if (f->kind == ELLIPSE)
-        pair((int32_t)f->b);
-    if (f->kind == CURVE || f->kind == CUBIC)
-        byte(f->s);
+    uint64_t *filled = &file_length;
+    uint32_t reply = PW_KIND;
+    switch (f->kind) {
+    case LINE: reply = pw_write_line(file, sizeof file, filled, 1, f->x0, f->y0, f->x1, f->y1); break;
+    case CIRCLE: reply = pw_write_circle(file, sizeof file, filled, 1, f->x0, f->y0, f->a); break;
+    case ELLIPSE: reply = pw_write_ellipse(file, sizeof file, filled, 1, f->x0, f->y0, f->a, f->b); break;
+    case CURVE:
+        reply = pw_write_curve(file, sizeof file, filled, 1, f->x0, f->y0, f->x1, f->y1, f->x2, f->y2, f->s);
+        break;
+    case CUBIC:
+        reply = pw_write_cubic(file, sizeof file, filled, 1, f->x0, f->y0, f->x1, f->y1, f->x2, f->y2, f->x3, f->y3, f->s);
+        break;
+    case LISTING:
+    case FILL: break;
+    }
+    done(reply);
 }
 
 /* the whole file at once, whatever the figure */
 static int whole_file(struct sheet *s, const struct figure *f) {
     uint64_t records;
     (void)f;
-    if (pw_file(s->bytes, length(s), s->side, s->side, s->pitch, file, file_length, &records) != PW_DONE)
-        exit(1);
+    done(pw_file(s->bytes, length(s), s->side, s->side, s->pitch, file, file_length, &records));
     return 1;
 }
 
@@ -140,7 +139,7 @@ static void told(double ns) {
         printf(" | %.2f", ns);
 }
 
-/* one row of the table: each way's nanoseconds by the unit, and ours as a part of the two in C and OpenCV's */
+/* one row of the table: each way's nanoseconds by the unit, and ours as a part of the two in C and OpenCV's; s may be none */
 static void row(const char *name, const char *unit, struct sheet *s, struct way *ways, size_t n,
                 const struct figure *figures, size_t units) {
     for (size_t w = 0; w < n; w++)
@@ -152,8 +151,12 @@ static void row(const char *name, const char *unit, struct sheet *s, struct way 
             if (ns >= 0 && (ways[w].best < 0 || ns < ways[w].best))
                 ways[w].best = ns;
         }
-    printf("| %s, ns a %s | %u²", name, unit, s->side);
-    if (s->pitch != s->side)
+    printf("| %s, ns a %s | ", name, unit);
+    if (s)
+        printf("%u²", s->side);
+    else
+        printf("-");
+    if (s && s->pitch != s->side)
         printf(", pitch %u", s->pitch);
     for (size_t w = 0; w < n; w++)
         told(ways[w].best < 0 ? -1 : ways[w].best / (double)units);
@@ -273,12 +276,86 @@ static void rows(struct sheet *s, struct way *ways, size_t n) {
     fill_rows(s, ways, n);
 }
 
+/* ways of writing and of reading all records at once; those that write take the figures from this one on */
+static int write_all(struct sheet *none, const struct figure *f) {
+    (void)none;
+    file_length = 0;
+    for (size_t i = 0; i < WRITTEN; i++)
+        record(&f[i]);
+    return 1;
+}
+
+static int write_all_plainly(struct sheet *none, const struct figure *f) {
+    (void)none;
+    other_length = 0;
+    for (size_t i = 0; i < WRITTEN; i++)
+        done(plain_append(other, sizeof other, &other_length, &f[i]));
+    return 1;
+}
+
+/* reads so many bytes of the file, by the library or by C, and stops where that answers something else than these */
+static void reads(int plainly, size_t n, uint32_t due, uint64_t due_value) {
+    uint8_t cell = 0;
+    uint64_t value = 0;
+    uint32_t reply = plainly ? plain_read(file, n, &value) : pw_file(&cell, 1, 1, 1, 1, file, n, &value);
+    if (reply != due || value != due_value) {
+        fprintf(stderr, "speed: %s reads a file as %u, %llu\n", plainly ? "C" : "ours", reply, (unsigned long long)value);
+        exit(1);
+    }
+}
+
+/* with a byte too many at its end the file is read whole and then refused there, so that nothing is drawn */
+static int read_all(struct sheet *none, const struct figure *f) {
+    (void)none, (void)f;
+    reads(0, file_length + 1, PW_SHORT, file_length);
+    return 1;
+}
+
+static int read_all_plainly(struct sheet *none, const struct figure *f) {
+    (void)none, (void)f;
+    reads(1, file_length + 1, PW_SHORT, file_length);
+    return 1;
+}
+
+static int unable(struct sheet *none, const struct figure *f) {
+    (void)none, (void)f;
+    return 0;
+}
+
+/* stops where the library and C do not write the same bytes, or do not read all records in them */
+static void same_records(void) {
+    write_all(NULL, figures);
+    write_all_plainly(NULL, figures);
+    if (file_length != other_length || memcmp(file, other, file_length) != 0) {
+        fprintf(stderr, "speed: C writes other records than the library\n");
+        exit(1);
+    }
+    reads(0, file_length, PW_DONE, WRITTEN);
+    reads(1, file_length, PW_DONE, WRITTEN);
+}
+
+/* records of all kinds, which need no sheet */
+static void record_rows(size_t n) {
+    struct way ways[WAYS];
+    for (size_t w = 0; w < n; w++)
+        ways[w] = (struct way){.draw = unable, .figures = 1};
+    for (size_t i = 0; i < WRITTEN; i++)
+        figures[i] = any((enum kind)between(LINE, CUBIC));
+    same_records();
+    ways[0].draw = write_all;
+    ways[1].draw = write_all_plainly;
+    row("writing a record", "record", NULL, ways, n, figures, WRITTEN);
+    ways[0].draw = read_all;
+    ways[1].draw = read_all_plainly;
+    row("reading a record", "record", NULL, ways, n, figures, WRITTEN);
+}
+
 int main(void) {
     /* the last: rows that do not all begin in the same part of the cache */
     static const struct {
         uint32_t side, pitch;
     } sheets[] = {{64, 64}, {512, 512}, {4096, 4096}, {4096, 4160}};
-    struct way ways[5] = {{.draw = pistonwool}, {.draw = walk}, {.draw = by_rows}};
+    struct way ways[WAYS] = {{.draw = pistonwool}, {.draw = walk}, {.draw = by_rows}};
     size_t n = 3;
     printf("| figures | sheet | Pistonwool | C | C by rows");
 #ifdef OPENCV
@@ -315,5 +392,6 @@ int main(void) {
         free(s.work);
         free(s.fresh);
     }
+    record_rows(n);
     return 0;
 }

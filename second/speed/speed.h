@@ -37,6 +37,8 @@ struct figure some(enum kind kind, int32_t side);
 struct figure far_line(int32_t side);
 /* a ring that crosses the sheet, its centre up to its semi-axes away */
 struct figure far_ring(enum kind kind, int32_t side);
+/* a figure of this kind with any numbers within the limits */
+struct figure any(enum kind kind);
 
 /* lays the ground, ink 1 on ink 0, as what the sheet is to hold before; answers the fill that is measured on it */
 struct figure lay(struct sheet *sheet, enum ground ground);
@@ -56,6 +58,11 @@ draw opencv, libgd;
 /* libgd draws on an image of its own */
 void libgd_begin(uint32_t side);
 void libgd_end(void);
+
+/* in plain C, appends the figure's record with ink 1 to a buffer, as the pw_write_ functions do */
+uint32_t plain_append(uint8_t *buffer, size_t len, uint64_t *filled, const struct figure *figure);
+/* in plain C, reads a file as pw_file does before it draws; value is then how many records, or the offset of what is refused */
+uint32_t plain_read(const uint8_t *file, size_t n, uint64_t *value);
 
 /* the ith of the 2^s + 1 joined points of a curve or a cubic */
 void joined(const struct figure *curve, uint32_t i, int32_t *x, int32_t *y);
