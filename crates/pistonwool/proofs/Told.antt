@@ -122,14 +122,9 @@ lists-count a b xs ys xs′ ys′ r n v before h p e =
     let q = count-told r (subst (Tells One) (sym (h .tells)) p) n v before (e .0) (e .1) in
     (subst (λ (c : Answer). ListsInto a b xs ys c xs′ ys′) (q .0) h, q .1)
 
--- the same of writing a record, whose count may have 64 bits
-pub writes-count : (filled ink : ℕ) (f : Figure) (s t : List ℕ) (a : Answer) (n v : ℕ) → Writes filled ink f s a t → Tells Value (writeAnswer filled f (length s))
-    → (n ≡ a .number) × (v ≡ settled a (valueOf a) filled) → Writes filled ink f s (counted n v) t × Keeps n filled v
-writes-count filled ink f s t a n v h p e =
+-- the same of writing a record, whose count may have 64 bits, and of an equal figure
+pub writes-count : (filled ink : ℕ) (f g : Figure) (s t : List ℕ) (a : Answer) (n v : ℕ) → f ≡ g → Writes filled ink f s a t → Tells Value (writeAnswer filled f (length s))
+    → (n ≡ a .number) × (v ≡ settled a (valueOf a) filled) → Writes filled ink g s (counted n v) t × Keeps n filled v
+writes-count filled ink f g s t a n v same h p e =
     let q = value-told a (subst (Tells Value) (sym (h .tells)) p) n v filled (e .0) (e .1) in
-    (subst (λ (b : Answer). Writes filled ink f s b t) (q .0) h, q .1)
-
--- and of an equal figure, the count and the buffer as they are told
-pub appends-as : (filled ink : ℕ) (f g : Figure) (s t : List ℕ) (n v : ℕ) → f ≡ g
-    → Writes filled ink f s (counted n v) t × Keeps n filled v → Writes filled ink g s (counted n v) t × Keeps n filled v
-appends-as filled ink f g s t n v e h = (writes-as filled ink f g s (counted n v) t e (h .0), h .1)
+    (writes-as filled ink f g s (counted n v) t same (subst (λ (b : Answer). Writes filled ink f s b t) (q .0) h), q .1)

@@ -1,17 +1,18 @@
 // Writing a record file: each call appends one record to a lent buffer.
+ghost use mathlib.Core.Path.{_≡_};
 ghost use Rattle.sheet.specs.Sheet.{cell};
+ghost use Rattle.sheet.specs.Reply.{told, valueOf, settled};
 ghost use Rattle.sheet.specs.declared.Figure.the-variants.{Line, Circle, Ellipse, Curve, Cubic};
 ghost use Rattle.record.specs.Writing.{Writes};
 ghost use Rattle.pistonwool.specs.Told.{counted, Keeps};
 use sheet::Cell;
-use sheet::Figure;
+use sheet::Reply;
 
-// Appends the record of an ink and a figure; the new count goes to filled, unless it is refused.
-fn append(buffer: &mut [u8], filled: &mut u64, ink: u8, figure: Figure) -> u32
-    ensures { λ d. ⌜ Writes (now (filled .entry)) ink figure (now (buffer .entry)) (counted d (now (filled .exit))) (now (buffer .exit)) ⌝ }
-    ensures { λ d. ⌜ Keeps d (now (filled .entry)) (now (filled .exit)) ⌝ }
+// Tells the reply of a writer: its number, and the new count in filled where it is done.
+fn tell_filled(reply: Reply, filled: &mut u64) -> u32
+    ensures { λ r. ⌜ (r ≡ told reply .number)
+        × (now (filled .exit) ≡ settled (told reply) (valueOf (told reply)) (now (filled .entry))) ⌝ }
 {
-    let reply = record::write(buffer, *filled as usize, ink, figure);
     if !reply.is_done() {
         return reply.number();
     }
@@ -36,7 +37,8 @@ pub extern "C" fn pw_write_line(
 {
     let from = Cell { x: x0, y: y0 };
     let to = Cell { x: x1, y: y1 };
-    append(buffer, filled, ink, Figure::Line(from, to))
+    let reply = record::write_line(buffer, *filled as usize, ink, from, to);
+    tell_filled(reply, filled)
 }
 
 // Appends a circle.
@@ -54,7 +56,8 @@ pub extern "C" fn pw_write_circle(
     ensures { λ d. ⌜ Keeps d (now (filled .entry)) (now (filled .exit)) ⌝ }
 {
     let centre = Cell { x, y };
-    append(buffer, filled, ink, Figure::Circle(centre, r))
+    let reply = record::write_circle(buffer, *filled as usize, ink, centre, r);
+    tell_filled(reply, filled)
 }
 
 // Appends an ellipse.
@@ -73,7 +76,8 @@ pub extern "C" fn pw_write_ellipse(
     ensures { λ d. ⌜ Keeps d (now (filled .entry)) (now (filled .exit)) ⌝ }
 {
     let centre = Cell { x, y };
-    append(buffer, filled, ink, Figure::Ellipse(centre, a, b))
+    let reply = record::write_ellipse(buffer, *filled as usize, ink, centre, a, b);
+    tell_filled(reply, filled)
 }
 
 // Appends a quadratic curve in 2^s pieces.
@@ -97,7 +101,8 @@ pub extern "C" fn pw_write_curve(
     let p0 = Cell { x: x0, y: y0 };
     let p1 = Cell { x: x1, y: y1 };
     let p2 = Cell { x: x2, y: y2 };
-    append(buffer, filled, ink, Figure::Curve(p0, p1, p2, s))
+    let reply = record::write_curve(buffer, *filled as usize, ink, p0, p1, p2, s);
+    tell_filled(reply, filled)
 }
 
 // Appends a cubic curve in 2^s pieces.
@@ -124,5 +129,6 @@ pub extern "C" fn pw_write_cubic(
     let p1 = Cell { x: x1, y: y1 };
     let p2 = Cell { x: x2, y: y2 };
     let p3 = Cell { x: x3, y: y3 };
-    append(buffer, filled, ink, Figure::Cubic(p0, p1, p2, p3, s))
+    let reply = record::write_cubic(buffer, *filled as usize, ink, p0, p1, p2, p3, s);
+    tell_filled(reply, filled)
 }

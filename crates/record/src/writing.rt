@@ -1,4 +1,5 @@
-// Writing a record: an ink and a figure, appended to a lent buffer.
+// Writing a record: an ink and a figure, appended to a lent buffer of which as many bytes are filled as a count says. Each answers the new count,
+// or why nothing was written.
 ghost use mathlib.Core.Path.{_≡_};
 ghost use mathlib.Core.Bool.{true};
 ghost use mathlib.Core.List.{_++_};
@@ -71,8 +72,8 @@ fn free_of(bytes: usize, filled: usize) -> usize
     if filled < bytes { bytes - filled } else { 0 }
 }
 
-// Kind 1: length 11, ink, x0, y0, x1, y1.
-fn write_line(buffer: &mut [u8], filled: usize, ink: u8, from: Cell, to: Cell) -> Reply
+// Appends a line: kind 1, length 11, ink, x0, y0, x1, y1.
+pub fn write_line(buffer: &mut [u8], filled: usize, ink: u8, from: Cell, to: Cell) -> Reply
     ensures { λ r. ⌜ Writes filled ink (Line from to) (now (buffer .entry)) (told r) (now (buffer .exit)) ⌝ }
 {
     if !(sheet::in_limits(from) & sheet::in_limits(to)) {
@@ -87,8 +88,8 @@ fn write_line(buffer: &mut [u8], filled: usize, ink: u8, from: Cell, to: Cell) -
     Reply::Counted(filled + 13)
 }
 
-// Kind 2: length 9, ink, centre x, centre y, r.
-fn write_circle(buffer: &mut [u8], filled: usize, ink: u8, centre: Cell, r: u32) -> Reply
+// Appends a circle: kind 2, length 9, ink, centre x, centre y, r.
+pub fn write_circle(buffer: &mut [u8], filled: usize, ink: u8, centre: Cell, r: u32) -> Reply
     ensures { λ d. ⌜ Writes filled ink (Circle centre r) (now (buffer .entry)) (told d) (now (buffer .exit)) ⌝ }
 {
     if !sheet::in_limits(centre) {
@@ -106,8 +107,15 @@ fn write_circle(buffer: &mut [u8], filled: usize, ink: u8, centre: Cell, r: u32)
     Reply::Counted(filled + 11)
 }
 
-// Kind 3: length 11, ink, centre x, centre y, a, b.
-fn write_ellipse(buffer: &mut [u8], filled: usize, ink: u8, centre: Cell, a: u32, b: u32) -> Reply
+// Appends an ellipse: kind 3, length 11, ink, centre x, centre y, a, b.
+pub fn write_ellipse(
+    buffer: &mut [u8],
+    filled: usize,
+    ink: u8,
+    centre: Cell,
+    a: u32,
+    b: u32,
+) -> Reply
     ensures { λ r. ⌜ Writes filled ink (Ellipse centre a b) (now (buffer .entry)) (told r) (now (buffer .exit)) ⌝ }
 {
     if !sheet::in_limits(centre) {
@@ -126,8 +134,8 @@ fn write_ellipse(buffer: &mut [u8], filled: usize, ink: u8, centre: Cell, a: u32
     Reply::Counted(filled + 13)
 }
 
-// Kind 4: length 16, ink, P0, P1, P2, s.
-fn write_curve(
+// Appends a quadratic curve: kind 4, length 16, ink, P0, P1, P2, s.
+pub fn write_curve(
     buffer: &mut [u8],
     filled: usize,
     ink: u8,
@@ -153,8 +161,8 @@ fn write_curve(
     Reply::Counted(filled + 18)
 }
 
-// Kind 5: length 20, ink, P0, P1, P2, P3, s.
-fn write_cubic(
+// Appends a cubic curve: kind 5, length 20, ink, P0, P1, P2, P3, s.
+pub fn write_cubic(
     buffer: &mut [u8],
     filled: usize,
     ink: u8,
@@ -185,8 +193,7 @@ fn write_cubic(
     Reply::Counted(filled + 22)
 }
 
-// Appends the record of an ink and a figure to a buffer whose first bytes, as many as the filled count says, are filled: the new count, or why
-// nothing was written.
+// Appends a figure of any kind.
 pub fn write(buffer: &mut [u8], filled: usize, ink: u8, figure: Figure) -> Reply
     ensures { λ r. ⌜ Writes filled ink figure (now (buffer .entry)) (told r) (now (buffer .exit)) ⌝ }
 {

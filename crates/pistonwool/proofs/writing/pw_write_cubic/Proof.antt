@@ -1,19 +1,23 @@
 -- `pistonwool::writing::pw_write_cubic` meets its contract.
 use borrow.Author.Needs.{needs}
 use Rattle.sheet.specs.declared.Figure.the-variants.{Cubic}
-use Rattle.pistonwool.proofs.Told.{cell-back, appends-as}
+use Rattle.pistonwool.proofs.Forms.{write-tells}
+use Rattle.pistonwool.proofs.Told.{cell-back, writes-count}
 use Rattle.pistonwool.proofs.writing.pw_write_cubic.Statement.{statement}
 use Rattle.pistonwool.proofs.writing.pw_write_cubic.Tie as tie
 
-append-requires : tie.Need-append-requires
-append-requires c κs = search needs
+write-cubic-requires : tie.Need-write-cubic-requires
+write-cubic-requires c κs = search needs
+
+tell-filled-requires : tie.Need-tell-filled-requires
+tell-filled-requires c κs = search needs
 
 same-length : tie.Need-same-length
 same-length c = search needs
 
 returns : tie.Need-returns
 returns c =
-    let called = c .before .before in
+    let called = c .before .before .before .before in
     let start = called .before .before .before .before in
     let a = start .args in
     let f = start .fits in
@@ -21,7 +25,8 @@ returns c =
     let p1 = cell-back (a .x1) (a .y1) (f .x1) (f .y1) in
     let p2 = cell-back (a .x2) (a .y2) (f .x2) (f .y2) in
     let p3 = cell-back (a .x3) (a .y3) (f .x3) (f .y3) in
-    appends-as _ _ _ _ _ _ _ _ (λ i. Cubic (p0 i) (p1 i) (p2 i) (p3 i) (a .s)) (called .append .ensures)
+    writes-count _ _ _ _ _ _ _ _ _ (λ i. Cubic (p0 i) (p1 i) (p2 i) (p3 i) (a .s)) (called .write-cubic .ensures) (write-tells _ _ _) (c .tell-filled .ensures)
 
 pub pw-write-cubic-spec : {M : Type 1} → statement M
-pw-write-cubic-spec = tie.close (tie.spec append-requires same-length returns)
+pw-write-cubic-spec =
+    tie.close (tie.spec write-cubic-requires tell-filled-requires same-length returns)
