@@ -37,8 +37,9 @@ returns c =
     let kind = byte .before .before .before .before .before in
     let counts = kind .before .before .before .before in
     let a = counts .before .before .before .args in
-    let head = bytesOf 2 (a .counts) ++ bytesOf 2 (a .kind) in
-    then (now (a .buffer)) head (bytesOf 1 (a .ink)) (a .at) (then (now (a .buffer)) (bytesOf 2 (a .counts)) (bytesOf 2 (a .kind)) (a .at) (counts .put-word .ensures) (kind .put-word2 .ensures))
+    let s = now (a .buffer) in
+    let head = then s (bytesOf 2 (a .counts)) (bytesOf 2 (a .kind)) (a .at) (counts .put-word .ensures) (kind .put-word2 .ensures) in
+    then s (bytesOf 2 (a .counts) ++ bytesOf 2 (a .kind)) (bytesOf 1 (a .ink)) (a .at) head
     (byte .put-byte .ensures ∙ ap (λ (n : ℕ). sets (kind .put-word2 .last .0) (a .at + 4) (bytesOf 1 n)) (byte .before .wide .ensures))
 
 pub put-head-spec : {M : Type 1} → statement M

@@ -19,17 +19,18 @@ use Rattle.record.proofs.writing.write_cubic.Statement.{statement}
 use Rattle.record.proofs.writing.write_cubic.Tie as tie
 
 -- what the tests answered, and showed
-points : (c : tie.After-in-limits4)
-    → (c .before .before .before .in-limits .result && c .before .before .in-limits2 .result && c .before .in-limits3 .result && c .in-limits4 .result) ≡
-    (inLimits (c .before .before .before .before .before .args .p0) && inLimits (c .before .before .before .before .before .args .p1) && inLimits (c .before .before .before .before .before .args .p2) && inLimits (c .before .before .before .before .before .args .p3))
+points : (c : tie.After-in-limits4) → let a = c .before .before .before .before .before .args in let two = c .before .before in
+    (two .before .in-limits .result && two .in-limits2 .result && c .before .in-limits3 .result && c .in-limits4 .result) ≡
+    (inLimits (a .p0) && inLimits (a .p1) && inLimits (a .p2) && inLimits (a .p3))
 points c =
-    let three = c .before in
-    ap₂ _&&_ (ap₂ _&&_ (ap₂ _&&_ (three .before .before .in-limits .ensures) (three .before .in-limits2 .ensures)) (three .in-limits3 .ensures)) (c .in-limits4 .ensures)
+    let two = c .before .before in
+    let first = ap₂ _&&_ (two .before .in-limits .ensures) (two .in-limits2 .ensures) in
+    ap₂ _&&_ (ap₂ _&&_ first (c .before .in-limits3 .ensures)) (c .in-limits4 .ensures)
 
-points-in : (c : tie.Else1) → (inLimits (c .before .before .before .before .before .before .args .p0) && inLimits (c .before .before .before .before .before .before .args .p1) && inLimits (c .before .before .before .before .before .before .args .p2) && inLimits (c .before .before .before .before .before .before .args .p3)) ≡ true
+points-in : (c : tie.Else1) → let a = c .before .before .before .before .before .before .args in (inLimits (a .p0) && inLimits (a .p1) && inLimits (a .p2) && inLimits (a .p3)) ≡ true
 points-in c = yes _ _ (points (c .before)) (c .if1 .left)
 
-sound : (c : tie.Else2) → Sound (Cubic (c .before .before .before .before .before .before .before .before .args .p0) (c .before .before .before .before .before .before .before .before .args .p1) (c .before .before .before .before .before .before .before .before .args .p2) (c .before .before .before .before .before .before .before .before .args .p3) (c .before .before .before .before .before .before .before .before .args .s))
+sound : (c : tie.Else2) → let a = c .before .before .before .before .before .before .before .before .args in Sound (Cubic (a .p0) (a .p1) (a .p2) (a .p3) (a .s))
 sound c =
     let four = halves _ _ (points-in (c .before .before)) in
     let three = halves _ _ (four .0) in

@@ -19,14 +19,14 @@ use Rattle.record.proofs.writing.write_curve.Statement.{statement}
 use Rattle.record.proofs.writing.write_curve.Tie as tie
 
 -- what the tests answered, and showed
-points : (c : tie.After-in-limits3) → (c .before .before .in-limits .result && c .before .in-limits2 .result && c .in-limits3 .result) ≡
-    (inLimits (c .before .before .before .before .args .p0) && inLimits (c .before .before .before .before .args .p1) && inLimits (c .before .before .before .before .args .p2))
+points : (c : tie.After-in-limits3) → let a = c .before .before .before .before .args in
+    (c .before .before .in-limits .result && c .before .in-limits2 .result && c .in-limits3 .result) ≡ (inLimits (a .p0) && inLimits (a .p1) && inLimits (a .p2))
 points c = ap₂ _&&_ (ap₂ _&&_ (c .before .before .in-limits .ensures) (c .before .in-limits2 .ensures)) (c .in-limits3 .ensures)
 
-points-in : (c : tie.Else1) → (inLimits (c .before .before .before .before .before .args .p0) && inLimits (c .before .before .before .before .before .args .p1) && inLimits (c .before .before .before .before .before .args .p2)) ≡ true
+points-in : (c : tie.Else1) → let a = c .before .before .before .before .before .args in (inLimits (a .p0) && inLimits (a .p1) && inLimits (a .p2)) ≡ true
 points-in c = yes _ _ (points (c .before)) (c .if1 .left)
 
-sound : (c : tie.Else2) → Sound (Curve (c .before .before .before .before .before .before .before .args .p0) (c .before .before .before .before .before .before .before .args .p1) (c .before .before .before .before .before .before .before .args .p2) (c .before .before .before .before .before .before .before .args .s))
+sound : (c : tie.Else2) → let a = c .before .before .before .before .before .before .before .args in Sound (Curve (a .p0) (a .p1) (a .p2) (a .s))
 sound c =
     let three = halves _ _ (points-in (c .before .before)) in
     let two = halves _ _ (three .0) in

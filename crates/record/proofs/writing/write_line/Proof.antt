@@ -18,10 +18,11 @@ use Rattle.record.proofs.writing.write_line.Statement.{statement}
 use Rattle.record.proofs.writing.write_line.Tie as tie
 
 -- what the tests answered, and showed
-both : (c : tie.After-in-limits2) → (c .before .in-limits .result && c .in-limits2 .result) ≡ (inLimits (c .before .before .before .args .from) && inLimits (c .before .before .before .args .to))
+both : (c : tie.After-in-limits2) → let a = c .before .before .before .args in
+    (c .before .in-limits .result && c .in-limits2 .result) ≡ (inLimits (a .from) && inLimits (a .to))
 both c = ap₂ _&&_ (c .before .in-limits .ensures) (c .in-limits2 .ensures)
 
-sound : (c : tie.Else1) → Sound (Line (c .before .before .before .before .args .from) (c .before .before .before .before .args .to))
+sound : (c : tie.Else1) → let a = c .before .before .before .before .args in Sound (Line (a .from) (a .to))
 sound c = halves _ _ (yes _ _ (both (c .before)) (c .if1 .left))
 
 in-limits-requires : tie.Need-in-limits-requires
@@ -69,7 +70,8 @@ returns-3 c =
     let tested = room .before .before in
     let a = tested .before .before .before .before .args in
     let s = now (a .buffer) in
-    writes _ _ _ s (sound tested) 13 (line-size _ _) (omega (arith, room .before .free-of .ensures, room .if2 .left)) _ _ (line-bytes (a .ink) (a .from) (a .to))
+    writes _ _ _ s (sound tested) 13 (line-size _ _) (omega (arith, room .before .free-of .ensures, room .if2 .left)) _ _
+    (line-bytes (a .ink) (a .from) (a .to))
     (then s (headBytes 11 1 (a .ink) ++ cellBytes (a .from)) (cellBytes (a .to)) (a .filled)
     (then s (headBytes 11 1 (a .ink)) (cellBytes (a .from)) (a .filled) (head .put-head .ensures) (from .put-cell .ensures))
     (to .put-cell2 .ensures))
