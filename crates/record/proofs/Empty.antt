@@ -1,9 +1,9 @@
 -- A program that refuses all, one that always replies the same, and one that writes nothing, break the statement of writing: of every figure within
 -- its limits, in a buffer with just the room for its record.
-use Prim.Native.Nat.{ℕ, _+_, _-_, _≤_, _<_}
+use Prim.Native.Nat.{ℕ, _+_, _-_, _<_}
 use mathlib.Core.Path.{_≡_, sym, subst, ap, _∙_}
 use mathlib.Core.List.{List, [], _∷_}
-use mathlib.Core.Bool.{true, false}
+use mathlib.Core.Bool.{false}
 use native.Mathlib.Omega.{arith}
 use borrow.Author.Tests.{le-leb, lt-leb}
 use lib.IntN.{pos}
@@ -16,8 +16,6 @@ use Rattle.sheet.proofs.Figures.{Sound, figure-passes}
 use Rattle.record.specs.Layout.{wordAt}
 use Rattle.record.specs.Reading.{readAt}
 use Rattle.record.specs.Writing.{recordSize, writeAnswer, Writes}
-use Rattle.record.specs.Again.{ReadsAndWrites}
-use Rattle.record.specs.declared.types.Read.{Read}
 use Rattle.record.specs.declared.types.Read.the-variants as read
 use Rattle.record.proofs.Frames.{under-2}
 use Rattle.record.proofs.Again.{reads-and-writes}

@@ -6,7 +6,7 @@ use native.Mathlib.Omega.{arith}
 use borrow.Author.Tests.{le-leb, lt-leb}
 use lib.ListN.{length, take, drop}
 use Rattle.sheet.specs.declared.Refusal.the-variants.{Short, Kindless}
-use Rattle.record.specs.Layout.{wordAt, table}
+use Rattle.record.specs.Layout.{wordAt}
 use Rattle.record.specs.Reading.{kindFound, foundAt, readOf, readAt}
 use Rattle.record.specs.declared.types.Read.{Read}
 use Rattle.record.specs.declared.types.Read.the-variants.{End, Refused}

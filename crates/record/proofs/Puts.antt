@@ -1,6 +1,6 @@
 -- Bytes put into a buffer one after another are put at once; and those of a lifted coordinate are its own.
-use Prim.Native.Nat.{ℕ, suc, _+_, _-_, _*_, _/_, _%_, _≤_}
-use mathlib.Core.Path.{_≡_, refl, ap, _∙_}
+use Prim.Native.Nat.{ℕ, suc, _+_, _-_, _/_, _%_}
+use mathlib.Core.Path.{_≡_, ap, _∙_}
 use mathlib.Core.List.{List, [], _∷_, _++_}
 use mathlib.Core.Bool.{true}
 use native.Mathlib.Nat.{add-mod-right, add-mul-mod-self-left, add-mul-div-left}
@@ -8,12 +8,11 @@ use native.Mathlib.Omega.{arith}
 use lib.ListN.{length, set}
 use lib.IntN.{ℤ, pos, negsuc}
 use lib.Seq.{sets}
-use Rattle.laws.proofs.Ints.{ints, parts}
 use Rattle.sheet.specs.Sheet.{coordinate, inLimits}
 use Rattle.sheet.specs.Inner.{moved, movedCell}
 use Rattle.sheet.specs.declared.Cell.{Cell}
 use Rattle.sheet.specs.declared.Spot.{Spot}
-use Rattle.sheet.proofs.Limits.{limits-x, limits-y, limit-low, moved-is}
+use Rattle.sheet.proofs.Limits.{limits-x, limits-y, moved-is}
 use Rattle.record.specs.Layout.{unsigned, bytesOf}
 use Rattle.record.specs.Inner.{cellBytes}
 

@@ -10,8 +10,8 @@ use Rattle.sheet.specs.Figure.{numberIn}
 use Rattle.sheet.specs.declared.Figure.{Figure}
 use Rattle.sheet.specs.declared.Refusal.{Refusal}
 use Rattle.sheet.proofs.Figures.{Sound}
-use Rattle.record.specs.Layout.{Field, lengthWord, kindWord, Row, wordAt, widths, kindPlace, payloadPlace, lineRow, circleRow, ellipseRow, curveRow, cubicRow, table}
-use Rattle.record.specs.Reading.{Found, found, refused, valuesFrom, payloadAt, readOf, readAt}
+use Rattle.record.specs.Layout.{Field, lengthWord, kindWord, Row, wordAt, widths, lineRow, circleRow, ellipseRow, curveRow, cubicRow, table}
+use Rattle.record.specs.Reading.{Found, refused, valuesFrom, payloadAt, readOf, readAt}
 use Rattle.record.specs.File.{Contents, holds, refuses, also, readFrom, readAll}
 use Rattle.record.specs.Writing.{fieldsBytes, rowBytes, recordBytes}
 use Rattle.record.specs.Again.{Bytes, Item, itemOf}
