@@ -123,8 +123,8 @@ lists-count a b xs ys xs′ ys′ r n v before h p e =
     (subst (λ (c : Answer). ListsInto a b xs ys c xs′ ys′) (q .0) h, q .1)
 
 -- the same of writing a record, whose count may have 64 bits, and of an equal figure
-pub writes-count : (filled ink : ℕ) (f g : Figure) (s t : List ℕ) (a : Answer) (n v : ℕ) → f ≡ g → Writes filled ink f s a t → Tells Value (writeAnswer filled f (length s))
-    → (n ≡ a .number) × (v ≡ settled a (valueOf a) filled) → Writes filled ink g s (counted n v) t × Keeps n filled v
+pub writes-count : (filled ink : ℕ) (f g : Figure) (s t : List ℕ) (a : Answer) (n v : ℕ) → f ≡ g → Writes filled ink f s a t
+    → Tells Value (writeAnswer filled f (length s)) → (n ≡ a .number) × (v ≡ settled a (valueOf a) filled) → Writes filled ink g s (counted n v) t × Keeps n filled v
 writes-count filled ink f g s t a n v same h p e =
     let q = value-told a (subst (Tells Value) (sym (h .tells)) p) n v filled (e .0) (e .1) in
     (writes-as filled ink f g s (counted n v) t same (subst (λ (b : Answer). Writes filled ink f s b t) (q .0) h), q .1)

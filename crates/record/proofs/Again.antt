@@ -54,7 +54,9 @@ module _ (n i : ℕ) (f : Figure) (s : List ℕ) where
       by l false e = refused Full
 
   outcome : (r : Answer) (t : List ℕ) → Writes n i f s r t → Outcome n i f s r t
-  outcome r t w = subst (Outcome n i f s r) (sym (w .leaves)) (subst (λ (a : Answer). Outcome n i f s a (settled (writeAnswer n f (length s)) (putAt n (recordBytes i f) s) s)) (sym (w .tells)) answered)
+  outcome r t w =
+      let bytes = settled (writeAnswer n f (length s)) (putAt n (recordBytes i f) s) s in
+      subst (Outcome n i f s r) (sym (w .leaves)) (subst (λ (a : Answer). Outcome n i f s a bytes) (sym (w .tells)) answered)
 
 -- reading at the old count of what was written
 put-read : (n i : ℕ) (f : Figure) (s : List ℕ) → i < 256 → Sound f → n + recordSize f ≤ length s
@@ -65,14 +67,15 @@ put-read n i f s b l h =
     let rest = drop (n + length (recordBytes i f)) s in
     let split : sets s n (recordBytes i f) ≡ q ++ (recordBytes i f ++ rest) = sym (fitting n i f s h) ∙ append-assoc q (recordBytes i f) rest in
     ap (λ (t : List ℕ). readAt t n) split
-    ∙ subst (λ (n : ℕ). readAt (q ++ (recordBytes i f ++ rest)) n ≡ read.Record (record { offset = n; next = n + recordSize f; ink = i; figure = f })) e
+    ∙ subst (λ (n : ℕ). readAt (q ++ (recordBytes i f ++ rest)) n ≡ read.Record (recordAt n (record { ink = i; figure = f }))) e
     (record-read i f (rowed i f b l) q rest)
 
 read-back : (n i m : ℕ) (f : Figure) (s t : List ℕ) → i < 256 → Writes n i f s (done (pos m ∷ [])) t
     → readAt t n ≡ read.Record (record { offset = n; next = m; ink = i; figure = f })
 read-back n i m f s t b w = by _ _ refl (outcome n i f s _ t w)
   where
-    by : (r : Answer) (t : List ℕ) → r ≡ done (pos m ∷ []) → Outcome n i f s r t → readAt t n ≡ read.Record (record { offset = n; next = m; ink = i; figure = f })
+    by : (r : Answer) (t : List ℕ) → r ≡ done (pos m ∷ []) → Outcome n i f s r t
+        → readAt t n ≡ read.Record (record { offset = n; next = m; ink = i; figure = f })
     by _ _ e (wrote l h) = put-read n i f s b l h ∙ ap (λ (k : ℕ). read.Record (record { offset = n; next = k; ink = i; figure = f })) (ap valueOf e)
     by _ _ e (left q) = absurd (true≢false (sym (ap isDone e) ∙ number-not-0 q))
 
@@ -117,7 +120,9 @@ module _ (w : Item) (ws ks : List Item) (n m : ℕ) (s u : List ℕ) where
 
   next-stood : w .ink < 256 → n ≤ length s → (r : Answer) (t : List ℕ) → Outcome n (w .ink) (w .figure) s r t
       → (settled r (valueOf r) n ≤ length t → Stood (settled r (valueOf r) n) t ks m u) → Stood n s (settled r (w ∷ ks) ks) m u
-  next-stood b h _ _ (wrote l g) f = one-more w ks n m s u b l (f (subst (λ (k : ℕ). n + recordSize (w .figure) ≤ k) (sym (length-sets s n (recordBytes (w .ink) (w .figure)))) g))
+  next-stood b h _ _ (wrote l g) f =
+      let e = sym (length-sets s n (recordBytes (w .ink) (w .figure))) in
+      one-more w ks n m s u b l (f (subst (λ (k : ℕ). n + recordSize (w .figure) ≤ k) e g))
   next-stood b h _ _ (left q) f = unkept (isDone (refuse q)) (valueOf (refuse q)) (number-not-0 q) h f
 
   -- one that is within its limits, and has room, is done
@@ -144,7 +149,8 @@ all-kept _ _ _ _ _ _ l h (InTurn.none n s) = refl
 all-kept _ _ _ _ _ _ l h (InTurn.next w ws ks n m s t u r b o rest) =
     let e = record-size (w .ink) (w .figure) in
     let room : n + recordSize (w .figure) ≤ length s = omega (arith, length-append (recordBytes (w .ink) (w .figure)) (allBytes ws)) in
-    next-kept w ws ks n m s u r t (is-done w ws ks n m s u r t (l .1 .0) room o) h (outcome n (w .ink) (w .figure) s r t o) (λ g. all-kept ws _ t ks m u (l .1 .1) g rest)
+    next-kept w ws ks n m s u r t (is-done w ws ks n m s u r t (l .1 .0) room o) h (outcome n (w .ink) (w .figure) s r t o)
+    (λ g. all-kept ws _ t ks m u (l .1 .1) g rest)
 
 -- the file that was written, and one that is written again
 written-file : (asked kept : List Item) (s t : List ℕ) (m : ℕ) → InTurn asked 0 s kept m t → readAll (take m t) ≡ holds (recordsFrom 0 kept)

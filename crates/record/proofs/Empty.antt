@@ -1,5 +1,5 @@
--- A program that refuses all, one that always replies the same, and one that writes nothing, break the statement of writing: of every figure within
--- its limits, in a buffer with just the room for its record.
+-- A program that refuses all, one that always replies the same, and one that writes nothing, break the statement of writing: of every figure
+-- within its limits, in a buffer with just the room for its record.
 use Prim.Native.Nat.{ℕ, _+_, _-_, _<_}
 use mathlib.Core.Path.{_≡_, sym, subst, ap, _∙_}
 use mathlib.Core.List.{List, [], _∷_}

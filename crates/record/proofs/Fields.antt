@@ -119,7 +119,8 @@ module _ (p : List ℕ) (bytes : Bytes p) where
   unfolding fieldsBytes valuesFrom
   fields-again [] k h = refl
   fields-again (f ∷ fs) k h =
-      ap₂ (λ (a b : List ℕ). a ++ b) (form-again (form f) k (omega arith)) (fields-again fs (k + width f) (omega arith) ∙ ap (take (widths fs)) (sym (drop-drop (width f) k p)))
+      let others = fields-again fs (k + width f) (omega arith) ∙ ap (take (widths fs)) (sym (drop-drop (width f) k p)) in
+      ap₂ (λ (a b : List ℕ). a ++ b) (form-again (form f) k (omega arith)) others
       ∙ sym (take-add (width f) (widths fs) (drop k p))
 
 -- A part of a file that starts at an offset is read as the file is there.

@@ -31,7 +31,8 @@ lifted-bytes : (z : ℤ) → coordinate z ≡ true → bytesOf 2 (moved z) ≡ b
 lifted-bytes (pos n) e =
     let m : moved (pos n) ≡ n + 65536 = moved-is (pos n) e ∙ omega arith in
     let low : (n + 65536) % 256 ≡ n % 256 = add-mul-mod-self-left n 256 256 in
-    let high : (n + 65536) / 256 % 256 ≡ n / 256 % 256 = ap (λ (q : ℕ). q % 256) (add-mul-div-left n 256 (omega arith)) ∙ add-mod-right (n / 256) 256 in
+    let above : (n + 65536) / 256 ≡ n / 256 + 256 = add-mul-div-left n 256 (omega arith) in
+    let high : (n + 65536) / 256 % 256 ≡ n / 256 % 256 = ap (λ (q : ℕ). q % 256) above ∙ add-mod-right (n / 256) 256 in
     rw m (λ i. low i ∷ high i ∷ [])
 lifted-bytes (negsuc n) e =
     let m : moved (negsuc n) ≡ 65536 - suc n = moved-is (negsuc n) e ∙ omega arith in

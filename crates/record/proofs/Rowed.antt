@@ -8,19 +8,20 @@ use borrow.Author.Tests.{leb-true}
 use lib.IntN.{ℤ, pos}
 use lib.ListN.{length, take, drop, length-append, length-take, length-drop}
 use Rattle.laws.proofs.Tests.{halves}
-use Rattle.sheet.specs.Sheet.{semiAxis}
+use Rattle.sheet.specs.Sheet.{inLimits, semiAxis, split}
 use Rattle.sheet.specs.Figure.{valuesOf, numberIn}
+use Rattle.sheet.specs.declared.Cell.{Cell}
 use Rattle.sheet.specs.declared.Figure.{Figure}
 use Rattle.sheet.specs.declared.Figure.the-variants.{Line, Circle, Ellipse, Curve, Cubic}
 use Rattle.sheet.proofs.Figures.{Sound}
 use Rattle.sheet.proofs.Limits.{limits-x, limits-y}
-use Rattle.record.specs.Layout.{Field, lengthWord, kindWord, Row, wordAt, widths, lineRow, circleRow, ellipseRow, curveRow, cubicRow, table}
+use Rattle.record.specs.Layout.{Field, lengthWord, kindWord, byte, word, signedWord, Row, wordAt, widths, lineRow, circleRow, ellipseRow, curveRow, cubicRow, table}
 use Rattle.record.specs.Reading.{found, valuesFrom, rowFound, kindFound, readOf, readAt}
 use Rattle.record.specs.Writing.{fieldsBytes, rowBytes, recordBytes, recordLength, recordSize}
 use Rattle.record.specs.declared.types.Read.the-variants as read
 use Rattle.record.proofs.Found.{LimitedFrom, Counts, row-found}
-use Rattle.record.proofs.Fields.{AllKept, byte-kept, word-kept, signed-kept, fields-length, values-back, values-part}
-use Rattle.record.proofs.Stands.{line-limited, circle-limited, ellipse-limited, curve-limited, cubic-limited}
+use Rattle.record.proofs.Fields.{Kept, AllKept, byte-kept, word-kept, signed-kept, fields-length, values-back, values-part}
+use Rattle.record.proofs.Stands.{RowLimited, line-limited, circle-limited, ellipse-limited, curve-limited, cubic-limited}
 use Rattle.record.proofs.Frames.{framed}
 
 -- the payload's values of an ink and a figure
@@ -38,151 +39,61 @@ pub record Rowed (i : ℕ) (f : Figure) : Type 0 where
   pub keeps : AllKept (lengthWord ∷ kindWord ∷ row .payload) (pos (row .length) ∷ pos (row .kind) ∷ values i f)
   pub limits : (p : List ℕ) → valuesFrom (row .payload) p 0 ≡ values i f → LimitedFrom (row .payload) p 0
 
-axis-small : (n m : ℕ) → semiAxis n m ≡ true → n < 65536
+-- of a row whose equations hold by computing, whose fields hold the values, and have their limits from the figure's
+by-row : (i : ℕ) (f : Figure) (row : Row) → recordBytes i f ≡ rowBytes row (values i f) → recordLength f ≡ row .length → Counts row
+    → ((p : List ℕ) (at next : ℕ) → kindFound (row .kind) p at next ≡ rowFound row p at next) → row .figure (values i f) ≡ f
+    → AllKept (lengthWord ∷ kindWord ∷ row .payload) (pos (row .length) ∷ pos (row .kind) ∷ values i f)
+    → ((p : List ℕ) → RowLimited row p) → Sound f → Rowed i f
+by-row i f row b s c d m k limited l =
+    record {
+      row = row;
+      bytes = b;
+      size = s;
+      counts = c;
+      finds = d;
+      makes = m;
+      keeps = k;
+      limits = λ p e. limited p (subst (λ (v : List ℤ). Sound (row .figure v)) (sym e) (subst Sound (sym m) l));
+    }
+
+-- a record's length, kind and ink, and a cell, before what follows
+head-kept : (n k i : ℕ) {R : Type 0} → n < 65536 → k < 65536 → i < 256 → R → Kept word (pos n) × (Kept word (pos k) × (Kept byte (pos i) × R))
+head-kept n k i a b c r = (word-kept n a, (word-kept k b, (byte-kept i c, r)))
+
+cell-kept : (c : Cell) {R : Type 0} → inLimits c ≡ true → R → Kept signedWord (c .x) × (Kept signedWord (c .y) × R)
+cell-kept c l r = (signed-kept (c .x) (limits-x c l), (signed-kept (c .y) (limits-y c l), r))
+
+axis-kept : (n m : ℕ) {R : Type 0} → semiAxis n m ≡ true → R → Kept word (pos n) × R
 unfolding semiAxis
-axis-small n m e = let h = leb-true n 16383 (halves _ _ e .0) in omega arith
+axis-kept n m e r = let h = leb-true n 16383 (halves _ _ e .0) in (word-kept n (omega arith), r)
+
+split-kept : (s : ℕ) → split s ≡ true → Kept byte (pos s) × Unit {0}
+split-kept s e = let h = leb-true s 6 e in (byte-kept s (omega arith), tt)
 
 pub rowed : (i : ℕ) (f : Figure) → i < 256 → Sound f → Rowed i f
 unfolding recordBytes recordLength fieldsBytes kindFound table lineRow circleRow ellipseRow curveRow cubicRow
 rowed i (Line a b) h l =
-    record {
-      row = lineRow;
-      bytes = refl;
-      size = refl;
-      counts = refl;
-      finds = λ p at next. refl;
-      makes = refl;
-      keeps = (
-        word-kept 11 (omega arith),
-        (
-          word-kept 1 (omega arith),
-          (
-            byte-kept i h,
-            (signed-kept _ (limits-x a (l .0)), (signed-kept _ (limits-y a (l .0)), (signed-kept _ (limits-x b (l .1)), (signed-kept _ (limits-y b (l .1)), tt)))),
-          ),
-        ),
-      );
-      limits = λ p e. line-limited p (subst (λ (v : List ℤ). Sound (lineRow .figure v)) (sym e) l);
-    }
+    by-row i (Line a b) lineRow refl refl refl (λ p at next. refl) refl
+    (head-kept 11 1 i (omega arith) (omega arith) h (cell-kept a (l .0) (cell-kept b (l .1) tt)))
+    line-limited l
 rowed i (Circle c r) h l =
-    record {
-      row = circleRow;
-      bytes = refl;
-      size = refl;
-      counts = refl;
-      finds = λ p at next. refl;
-      makes = refl;
-      keeps = (
-        word-kept 9 (omega arith),
-        (
-          word-kept 2 (omega arith),
-          (
-            byte-kept i h,
-            (signed-kept _ (limits-x c (l .0)), (signed-kept _ (limits-y c (l .0)), (word-kept r (axis-small r r (halves _ _ (l .1) .0)), tt))),
-          ),
-        ),
-      );
-      limits = λ p e. circle-limited p (subst (λ (v : List ℤ). Sound (circleRow .figure v)) (sym e) l);
-    }
+    by-row i (Circle c r) circleRow refl refl refl (λ p at next. refl) refl
+    (head-kept 9 2 i (omega arith) (omega arith) h (cell-kept c (l .0) (axis-kept r r (halves _ _ (l .1) .0) tt)))
+    circle-limited l
 rowed i (Ellipse c a b) h l =
     let r = halves (semiAxis a b) (semiAxis b a) (l .1) in
-    record {
-      row = ellipseRow;
-      bytes = refl;
-      size = refl;
-      counts = refl;
-      finds = λ p at next. refl;
-      makes = refl;
-      keeps = (
-        word-kept 11 (omega arith),
-        (
-          word-kept 3 (omega arith),
-          (
-            byte-kept i h,
-            (signed-kept _ (limits-x c (l .0)), (signed-kept _ (limits-y c (l .0)), (word-kept a (axis-small a b (r .0)), (word-kept b (axis-small b a (r .1)), tt)))),
-          ),
-        ),
-      );
-      limits = λ p e. ellipse-limited p (subst (λ (v : List ℤ). Sound (ellipseRow .figure v)) (sym e) l);
-    }
+    by-row i (Ellipse c a b) ellipseRow refl refl refl (λ p at next. refl) refl
+    (head-kept 11 3 i (omega arith) (omega arith) h (cell-kept c (l .0) (axis-kept a b (r .0) (axis-kept b a (r .1) tt))))
+    ellipse-limited l
 rowed i (Curve p q r s) h l =
-    let n = leb-true s 6 (l .3) in
-    record {
-      row = curveRow;
-      bytes = refl;
-      size = refl;
-      counts = refl;
-      finds = λ p at next. refl;
-      makes = refl;
-      keeps = (
-        word-kept 16 (omega arith),
-        (
-          word-kept 4 (omega arith),
-          (
-            byte-kept i h,
-            (
-              signed-kept _ (limits-x p (l .0)),
-              (
-                signed-kept _ (limits-y p (l .0)),
-                (
-                  signed-kept _ (limits-x q (l .1)),
-                  (
-                    signed-kept _ (limits-y q (l .1)),
-                    (signed-kept _ (limits-x r (l .2)), (signed-kept _ (limits-y r (l .2)), (byte-kept s (omega arith), tt))),
-                  ),
-                ),
-              ),
-            ),
-          ),
-        ),
-      );
-      limits = λ p e. curve-limited p (subst (λ (v : List ℤ). Sound (curveRow .figure v)) (sym e) l);
-    }
+    by-row i (Curve p q r s) curveRow refl refl refl (λ p at next. refl) refl
+    (head-kept 16 4 i (omega arith) (omega arith) h (cell-kept p (l .0) (cell-kept q (l .1) (cell-kept r (l .2) (split-kept s (l .3))))))
+    curve-limited l
 rowed i (Cubic p q r t s) h l =
-    let n = leb-true s 6 (l .4) in
-    record {
-      row = cubicRow;
-      bytes = refl;
-      size = refl;
-      counts = refl;
-      finds = λ p at next. refl;
-      makes = refl;
-      keeps = (
-        word-kept 20 (omega arith),
-        (
-          word-kept 5 (omega arith),
-          (
-            byte-kept i h,
-            (
-              signed-kept _ (limits-x p (l .0)),
-              (
-                signed-kept _ (limits-y p (l .0)),
-                (
-                  signed-kept _ (limits-x q (l .1)),
-                  (
-                    signed-kept _ (limits-y q (l .1)),
-                    (
-                      signed-kept _ (limits-x r (l .2)),
-                      (
-                        signed-kept _ (limits-y r (l .2)),
-                        (
-                          signed-kept _ (limits-x t (l .3)),
-                          (
-                            signed-kept _ (limits-y t (l .3)),
-                            (byte-kept s (omega arith), tt),
-                          ),
-                        ),
-                      ),
-                    ),
-                  ),
-                ),
-              ),
-            ),
-          ),
-        ),
-      );
-      limits = λ p e. cubic-limited p (subst (λ (v : List ℤ). Sound (cubicRow .figure v)) (sym e) l);
-    }
+    by-row i (Cubic p q r t s) cubicRow refl refl refl (λ p at next. refl) refl
+    (head-kept 20 5 i (omega arith) (omega arith) h
+    (cell-kept p (l .0) (cell-kept q (l .1) (cell-kept r (l .2) (cell-kept t (l .3) (split-kept s (l .4)))))))
+    cubic-limited l
 
 -- the record of an ink and a figure, in a file with other bytes before and after it
 module _ (i : ℕ) (f : Figure) (R : Rowed i f) (q rest : List ℕ) where
@@ -246,4 +157,5 @@ module _ (i : ℕ) (f : Figure) (R : Rowed i f) (q rest : List ℕ) where
   pub record-read : readAt (q ++ (recordBytes i f ++ rest)) at ≡ read.Record (record { offset = at; next = at + recordSize f; ink = i; figure = f })
   record-read =
       let e : at + 2 + L ≡ at + recordSize f = omega (arith, R .size) in
-      ap (λ (b : List ℕ). readAt (q ++ (b ++ rest)) at) (R .bytes) ∙ row-read ∙ ap (λ (n : ℕ). read.Record (record { offset = at; next = n; ink = i; figure = f })) e
+      ap (λ (b : List ℕ). readAt (q ++ (b ++ rest)) at) (R .bytes) ∙ row-read
+      ∙ ap (λ (n : ℕ). read.Record (record { offset = at; next = n; ink = i; figure = f })) e

@@ -2,7 +2,10 @@
 use Prim.Native.Nat.{ℕ, _+_, _≤_, _<_}
 use mathlib.Core.Path.{_≡_, refl, sym, subst}
 use mathlib.Core.List.{List}
+use mathlib.Core.Bool.{true}
 use lib.ListN.{length}
+use Rattle.sheet.specs.Sheet.{coordinate, inLimits}
+use Rattle.sheet.specs.declared.Cell.{Cell}
 use Rattle.sheet.specs.declared.Refusal.{Refusal}
 use Rattle.laws.proofs.Tests.{halves}
 use Rattle.sheet.proofs.Figures.{Sound, cell-in, axes-in}
@@ -26,7 +29,10 @@ abbrev RowSound : Row → List ℕ → Type 0
 RowSound row p = LimitedFrom (row .payload) p 0 → Sound (row .figure (valuesFrom (row .payload) p 0))
 
 -- and back
-abbrev RowLimited : Row → List ℕ → Type 0
+cell-limits : (c : Cell) {R : Type 0} → inLimits c ≡ true → R → (coordinate (c .x) ≡ true) × ((coordinate (c .y) ≡ true) × R)
+cell-limits c l r = (limits-x c l, (limits-y c l, r))
+
+abbrev pub RowLimited : Row → List ℕ → Type 0
 RowLimited row p = Sound (row .figure (valuesFrom (row .payload) p 0)) → LimitedFrom (row .payload) p 0
 
 module _ (p : List ℕ) where
@@ -61,39 +67,23 @@ module _ (p : List ℕ) where
 
   pub line-limited : RowLimited lineRow p
   unfolding LimitedFrom valuesFrom lineRow
-  line-limited l = (tt, (limits-x _ (l .0), (limits-y _ (l .0), (limits-x _ (l .1), (limits-y _ (l .1), tt)))))
+  line-limited l = (tt, cell-limits _ (l .0) (cell-limits _ (l .1) tt))
 
   pub circle-limited : RowLimited circleRow p
   unfolding LimitedFrom valuesFrom circleRow
-  circle-limited l = (tt, (limits-x _ (l .0), (limits-y _ (l .0), (halves _ _ (l .1) .0, tt))))
+  circle-limited l = (tt, cell-limits _ (l .0) (halves _ _ (l .1) .0, tt))
 
   pub ellipse-limited : RowLimited ellipseRow p
   unfolding LimitedFrom valuesFrom ellipseRow
-  ellipse-limited l = let r = halves _ _ (l .1) in (tt, (limits-x _ (l .0), (limits-y _ (l .0), (r .0, (r .1, tt)))))
+  ellipse-limited l = let r = halves _ _ (l .1) in (tt, cell-limits _ (l .0) (r .0, (r .1, tt)))
 
   pub curve-limited : RowLimited curveRow p
   unfolding LimitedFrom valuesFrom curveRow
-  curve-limited l =
-      (tt, (limits-x _ (l .0), (limits-y _ (l .0), (limits-x _ (l .1), (limits-y _ (l .1), (limits-x _ (l .2), (limits-y _ (l .2), (l .3, tt))))))))
+  curve-limited l = (tt, cell-limits _ (l .0) (cell-limits _ (l .1) (cell-limits _ (l .2) (l .3, tt))))
 
   pub cubic-limited : RowLimited cubicRow p
   unfolding LimitedFrom valuesFrom cubicRow
-  cubic-limited l = (
-    tt,
-    (
-      limits-x _ (l .0),
-      (
-        limits-y _ (l .0),
-        (
-          limits-x _ (l .1),
-          (
-            limits-y _ (l .1),
-            (limits-x _ (l .2), (limits-y _ (l .2), (limits-x _ (l .3), (limits-y _ (l .3), (l .4, tt))))),
-          ),
-        ),
-      ),
-    ),
-  )
+  cubic-limited l = (tt, cell-limits _ (l .0) (cell-limits _ (l .1) (cell-limits _ (l .2) (cell-limits _ (l .3) (l .4, tt)))))
 
 module _ (s : List ℕ) (at : ℕ) where
   abbrev IfRecord : Read → Type 0

@@ -42,12 +42,15 @@ module _ (filled ink : ℕ) (f : Figure) (s : List ℕ) where
         let g : recordSize f ≤ length s - filled = rw (← e) h in
         let a : writeAnswer filled f (length s) ≡ done (pos (filled + recordSize f) ∷ []) =
         figure-passes f _ l ∙ simp (le-leb (recordSize f) (length s - filled) g) in
-        record { tells = rw e (sym a); leaves = p ∙ ap (sets s filled) q ∙ rw a (sets-eq (recordBytes ink f) s filled (rw (record-size ink f) (omega arith))) }
+        let room : filled + length (recordBytes ink f) ≤ length s = rw (record-size ink f) (omega arith) in
+        record { tells = rw e (sym a); leaves = p ∙ ap (sets s filled) q ∙ rw a (sets-eq (recordBytes ink f) s filled room) }
 
 -- of an equal figure the same is written
-pub writes-as : (filled ink : ℕ) (f g : Figure) (s : List ℕ) (r : Answer) (t : List ℕ) → f ≡ g → Writes filled ink f s r t → Writes filled ink g s r t
+pub writes-as : (filled ink : ℕ) (f g : Figure) (s : List ℕ) (r : Answer) (t : List ℕ) → f ≡ g
+    → Writes filled ink f s r t → Writes filled ink g s r t
 writes-as filled ink f g s r t e h = subst (λ (g : Figure). Writes filled ink g s r t) e h
 
 -- two replies of one writing on the same bytes are equal, and so are the bytes they leave
-pub writes-one : (filled ink : ℕ) (f : Figure) (s : List ℕ) (a b : Answer) (t u : List ℕ) → Writes filled ink f s a t → Writes filled ink f s b u → (a ≡ b) × (t ≡ u)
+pub writes-one : (filled ink : ℕ) (f : Figure) (s : List ℕ) (a b : Answer) (t u : List ℕ)
+    → Writes filled ink f s a t → Writes filled ink f s b u → (a ≡ b) × (t ≡ u)
 writes-one filled ink f s a b t u h g = (one-value a b _ (h .tells) (g .tells), one-value t u _ (h .leaves) (g .leaves))

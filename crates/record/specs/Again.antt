@@ -24,8 +24,8 @@ pub record Item : Type 0 where
 abbrev pub itemOf : Record → Item
 itemOf r = record { ink = r .ink; figure = r .figure }
 
--- Items that are asked for in turn, each answered as `Writes` has it: the count and the buffer before, the items that were done, the count and the
--- buffer after. One that is refused leaves all of them as they were.
+-- Items that are asked for in turn, each answered as `Writes` has it: the count and the buffer before, the items that were done, the count
+-- and the buffer after. One that is refused leaves all of them as they were.
 pub data InTurn : (asked : List Item) (filled : ℕ) (s : List ℕ) (kept : List Item) (after : ℕ) (t : List ℕ) → Type 0 where
   none : (n : ℕ) (s : List ℕ) → InTurn [] n s [] n s
   next : (w : Item) (ws ks : List Item) (n m : ℕ) (s t u : List ℕ) (r : Answer) → w .ink < 256 → Writes n (w .ink) (w .figure) s r t
@@ -43,11 +43,12 @@ pub record ReadsAndWrites : Type 0 where
   -- Reading at the old count of what was written gives that record, its offset, the new count as what follows, its ink and its figure.
   pub back : (filled ink n : ℕ) (f : Figure) (s t : List ℕ) → ink < 256 → Writes filled ink f s (done (pos n ∷ [])) t
       → readAt t filled ≡ read.Record (record { offset = filled; next = n; ink = ink; figure = f })
-  -- Figures written one after another from count 0 on: the first filled bytes are an accepted file whose records are those figures and inks in
-  -- order.
-  pub file : (asked kept : List Item) (s t : List ℕ) (filled : ℕ) → InTurn asked 0 s kept filled t → readAll (take filled t) ≡ holds (recordsFrom 0 kept)
-  -- Any accepted file, read and written again into any buffer that is large enough, is the same bytes: none of it is refused, and the rest of the
-  -- buffer stays.
+  -- Figures written one after another from count 0 on: the first filled bytes are an accepted file whose records are those figures and inks
+  -- in order.
+  pub file : (asked kept : List Item) (s t : List ℕ) (filled : ℕ) → InTurn asked 0 s kept filled t
+      → readAll (take filled t) ≡ holds (recordsFrom 0 kept)
+  -- Any accepted file, read and written again into any buffer that is large enough, is the same bytes: none of it is refused, and the rest of
+  -- the buffer stays.
   pub again : (s : List ℕ) (rs : List Record) → Bytes s → readAll s ≡ holds rs
       → (b t : List ℕ) (kept : List Item) (filled : ℕ) → length s ≤ length b → InTurn (map itemOf rs) 0 b kept filled t
       → (kept ≡ map itemOf rs) × (filled ≡ length s) × (t ≡ s ++ drop (length s) b)

@@ -1,5 +1,5 @@
-// Writing a record: an ink and a figure, appended to a lent buffer of which as many bytes are filled as a count says. Each answers the new count,
-// or why nothing was written.
+// Writing a record: an ink and a figure, appended to a lent buffer of which as many bytes are filled as a count says. Each answers the new
+// count, or why nothing was written.
 ghost use mathlib.Core.Path.{_≡_};
 ghost use mathlib.Core.Bool.{true};
 ghost use mathlib.Core.List.{_++_};

@@ -25,7 +25,8 @@ returns c =
     let p1 = cell-back (a .x1) (a .y1) (f .x1) (f .y1) in
     let p2 = cell-back (a .x2) (a .y2) (f .x2) (f .y2) in
     let p3 = cell-back (a .x3) (a .y3) (f .x3) (f .y3) in
-    writes-count _ _ _ _ _ _ _ _ _ (λ i. Cubic (p0 i) (p1 i) (p2 i) (p3 i) (a .s)) (called .write-cubic .ensures) (write-tells _ _ _) (c .tell-filled .ensures)
+    writes-count _ _ _ _ _ _ _ _ _ (λ i. Cubic (p0 i) (p1 i) (p2 i) (p3 i) (a .s))
+    (called .write-cubic .ensures) (write-tells _ _ _) (c .tell-filled .ensures)
 
 pub pw-write-cubic-spec : {M : Type 1} → statement M
 pw-write-cubic-spec =

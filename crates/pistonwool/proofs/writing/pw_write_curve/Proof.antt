@@ -24,7 +24,8 @@ returns c =
     let p0 = cell-back (a .x0) (a .y0) (f .x0) (f .y0) in
     let p1 = cell-back (a .x1) (a .y1) (f .x1) (f .y1) in
     let p2 = cell-back (a .x2) (a .y2) (f .x2) (f .y2) in
-    writes-count _ _ _ _ _ _ _ _ _ (λ i. Curve (p0 i) (p1 i) (p2 i) (a .s)) (called .write-curve .ensures) (write-tells _ _ _) (c .tell-filled .ensures)
+    writes-count _ _ _ _ _ _ _ _ _ (λ i. Curve (p0 i) (p1 i) (p2 i) (a .s))
+    (called .write-curve .ensures) (write-tells _ _ _) (c .tell-filled .ensures)
 
 pub pw-write-curve-spec : {M : Type 1} → statement M
 pw-write-curve-spec =

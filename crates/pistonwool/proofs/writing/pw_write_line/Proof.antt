@@ -23,7 +23,8 @@ returns c =
     let f = start .fits in
     let from = cell-back (a .x0) (a .y0) (f .x0) (f .y0) in
     let to = cell-back (a .x1) (a .y1) (f .x1) (f .y1) in
-    writes-count _ _ _ _ _ _ _ _ _ (λ i. Line (from i) (to i)) (called .write-line .ensures) (write-tells _ _ _) (c .tell-filled .ensures)
+    writes-count _ _ _ _ _ _ _ _ _ (λ i. Line (from i) (to i))
+    (called .write-line .ensures) (write-tells _ _ _) (c .tell-filled .ensures)
 
 pub pw-write-line-spec : {M : Type 1} → statement M
 pw-write-line-spec =
