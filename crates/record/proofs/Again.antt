@@ -152,6 +152,30 @@ all-kept _ _ _ _ _ _ l h (InTurn.next w ws ks n m s t u r b o rest) =
     next-kept w ws ks n m s u r t (is-done w ws ks n m s u r t (l .1 .0) room o) h (outcome n (w .ink) (w .figure) s r t o)
     (λ g. all-kept ws _ t ks m u (l .1 .1) g rest)
 
+-- Whatever is asked for, with inks that are bytes, and into whatever buffer: there are such replies, so that what is said of them is said of all.
+abbrev pub InksIn : List Item → Type 0
+InksIn [] = Unit {0}
+InksIn (w ∷ ws) = (w .ink < 256) × InksIn ws
+
+pub record Run (asked : List Item) (n : ℕ) (s : List ℕ) : Type 0 where
+  pub kept : List Item
+  pub after : ℕ
+  pub bytes : List ℕ
+  pub turns : InTurn asked n s kept after bytes
+
+pub any-run : (asked : List Item) → InksIn asked → (n : ℕ) (s : List ℕ) → Run asked n s
+any-run [] b n s = record { kept = []; after = n; bytes = s; turns = InTurn.none n s }
+any-run (w ∷ ws) b n s =
+    let r = writeAnswer n (w .figure) (length s) in
+    let t = settled r (putAt n (recordBytes (w .ink) (w .figure)) s) s in
+    let rest = any-run ws (b .1) (settled r (valueOf r) n) t in
+    record {
+      kept = settled r (w ∷ rest .kept) (rest .kept);
+      after = rest .after;
+      bytes = rest .bytes;
+      turns = InTurn.next w ws (rest .kept) n (rest .after) s t (rest .bytes) r (b .0) (record { tells = refl; leaves = refl }) (rest .turns);
+    }
+
 -- the file that was written, and one that is written again
 written-file : (asked kept : List Item) (s t : List ℕ) (m : ℕ) → InTurn asked 0 s kept m t → readAll (take m t) ≡ holds (recordsFrom 0 kept)
 unfolding readAll
