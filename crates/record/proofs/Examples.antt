@@ -1,18 +1,16 @@
 -- Document 01's examples of records, and document 02's: files, what is read at their first byte, and what the whole file answers; what is written.
-use Prim.Native.Nat.{ℕ, _+_, _-_, _≤_}
+use Prim.Native.Nat.{ℕ}
 use mathlib.Core.Path.{_≡_, refl}
 use mathlib.Core.List.{List, [], _∷_, map}
-use native.Mathlib.Omega.{arith}
 use lib.IntN.{pos, negsuc}
-use lib.ListN.{length, length-take, length-drop}
 use Rattle.sheet.specs.Reply.{Answer, done, refuseAt}
 use Rattle.sheet.specs.Sheet as sheet
 use Rattle.sheet.specs.Sheet.{cellOf}
 use Rattle.sheet.specs.declared.Figure.{Figure}
 use Rattle.sheet.specs.declared.Figure.the-variants.{Line, Circle, Ellipse, Curve, Cubic}
 use Rattle.sheet.specs.declared.Refusal.the-variants.{Coordinate, Radius, Pieces, Short, Kind, Length, Kindless}
-use Rattle.record.specs.Layout.{Row, kindWord, wordAt, widths, signed, lineRow, circleRow, ellipseRow, curveRow, cubicRow, table}
-use Rattle.record.specs.Reading.{valuesFrom, limitedFrom, rowFound, kindFound, payloadAt, foundAt, readAt, readAnswer}
+use Rattle.record.specs.Layout.{signed, lineRow, circleRow, ellipseRow, curveRow, cubicRow, table}
+use Rattle.record.specs.Reading.{valuesFrom, limitedFrom, rowFound, kindFound, foundAt, readAt, readAnswer}
 use Rattle.record.specs.Writing.{fieldsBytes, recordBytes}
 use Rattle.record.specs.File.{readIn, readFrom, readAll, fileAnswer}
 
@@ -112,12 +110,3 @@ writings =
 pub writings-hold : map (λ (w : Writing). recordBytes (w .ink) (w .figure)) writings ≡ map (λ (w : Writing). w .bytes) writings
 unfolding writings recordBytes fieldsBytes table lineRow circleRow ellipseRow curveRow cubicRow
 writings-hold = refl
-
--- the table's lengths count the kind and the payload
-pub lengths-hold : map (λ (row : Row). row .length) table ≡ map (λ (row : Row). widths (kindWord ∷ row .payload)) table
-unfolding table lineRow circleRow ellipseRow curveRow cubicRow
-lengths-hold = refl
-
--- and so does the length of a record that the file has whole
-pub length-holds : (s : List ℕ) (at : ℕ) → 2 ≤ length s - at → 2 ≤ wordAt s at → wordAt s at ≤ length s - at - 2 → 2 + length (payloadAt s at) ≡ wordAt s at
-length-holds s at f g h = simp (length-take, length-drop) (omega arith)

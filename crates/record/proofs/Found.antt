@@ -50,9 +50,14 @@ every P h (row ∷ rows) = (h row, every P h rows)
 abbrev pub Counts : Row → Type 0
 Counts row = row .length ≡ widths (kindWord ∷ row .payload)
 
-table-counts : Each Counts table
+pub table-counts : Each Counts table
 unfolding table lineRow circleRow ellipseRow curveRow cubicRow
 table-counts = (refl, (refl, (refl, (refl, (refl, tt)))))
+
+-- and so does the length of a record that the file has whole
+pub length-holds : (s : List ℕ) (at : ℕ) → 2 ≤ length s - at → 2 ≤ wordAt s at → wordAt s at ≤ length s - at - 2
+    → 2 + length (payloadAt s at) ≡ wordAt s at
+length-holds s at f g h = simp (length-take, length-drop) (omega arith)
 
 -- fields within their limits are not refused, and so a payload of a row's length makes its record
 limited-passes : (g : Field) (p : List ℕ) (k o : ℕ) (f : Found) → Limited g p k → limited g p k o f ≡ f

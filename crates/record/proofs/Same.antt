@@ -4,7 +4,7 @@ use mathlib.Core.Path.{_≡_, refl, sym, subst, ap, ap₂, _∙_}
 use mathlib.Core.List.{List, [], _∷_, _++_, map}
 use native.Mathlib.Omega.{arith}
 use lib.IntN.{ℤ, pos}
-use lib.ListN.{length, getD, take, drop, take-append-drop, drop-of-length-le, length-take, length-drop}
+use lib.ListN.{length, getD, take, drop, take-append-drop, drop-of-length-le}
 use lib.Seq.{drop-drop, getD-take, getD-drop}
 use Rattle.sheet.specs.Figure.{numberIn}
 use Rattle.sheet.specs.declared.Figure.{Figure}
@@ -18,7 +18,7 @@ use Rattle.record.specs.Again.{Bytes, Item, itemOf}
 use Rattle.record.specs.declared.types.Record.{Record}
 use Rattle.record.specs.declared.types.Read.{Read}
 use Rattle.record.specs.declared.types.Read.the-variants as read
-use Rattle.record.proofs.Found.{Each, each-as, Counts, kind-has, found-has}
+use Rattle.record.proofs.Found.{Each, each-as, Counts, length-holds, kind-has, found-has}
 use Rattle.record.proofs.Fields.{fields-again, values-part}
 use Rattle.record.proofs.Stands.{stands}
 use Rattle.record.proofs.Onward.{from-record, from-end, from-refusal}
@@ -69,9 +69,6 @@ module _ (s : List ℕ) (bytes : Bytes s) where
         ap₂ (λ (x y : List ℕ). x ++ y) (ap (fieldsBytes fields) all ∙ fields-again s bytes fields at (omega arith)) (sym rest)
         ∙ take-append-drop (widths fields) (drop at s)
 
-  payload-length : (at : ℕ) → at + 4 ≤ at + 2 + wordAt s at → at + 2 + wordAt s at ≤ length s → length (payloadAt s at) ≡ wordAt s at - 2
-  payload-length at a b = simp (length-take, length-drop) (omega arith)
-
   ink-byte : (o n : ℕ) → getD (take n (drop o s)) 0 0 < 256
   ink-byte o zero = omega arith
   ink-byte o (suc n) = subst (λ (b : ℕ). b < 256) (sym (getD-take (suc n) (drop o s) 0 0 (omega arith) ∙ getD-drop o s 0 0)) (bytes (o + 0))
@@ -115,7 +112,7 @@ module _ (s : List ℕ) (bytes : Bytes s) where
       → Again at (at + 2 + wordAt s at) (numberIn (valuesAt at row) 0) (row .figure (valuesAt at row))
   row-made at row W a b e m =
       let c = W .counts in
-      let n = payload-length at a b in (
+      let n = length-holds s at (omega arith) (omega arith) (omega arith) in (
         subst (λ (i : ℕ). i < 256) (sym (W .ink)) (ink-byte (at + 4) (wordAt s at - 2)),
         ap (λ (x : List ℕ). x ++ drop (at + 2 + wordAt s at) s) (W .writes) ∙ row-again at row c e (omega arith) b,
       )
