@@ -73,16 +73,16 @@ pub record One (v : List ℤ) : Type 0 where
   pub is : v ≡ pos n ∷ []
   pub small : n < 4294967296
 
-one-value : (a : Answer) → Tells One a → Tells Value a
-one-value _ (Tells.refused r) = Tells.refused r
-one-value _ (Tells.done v p) = Tells.done v (record { n = p .n; is = p .is })
+as-value : (a : Answer) → Tells One a → Tells Value a
+as-value _ (Tells.refused r) = Tells.refused r
+as-value _ (Tells.done v p) = Tells.done v (record { n = p .n; is = p .is })
 
 one-small : (a : Answer) → Tells One a → valueOf a < 4294967296
 one-small _ (Tells.refused r) = omega arith
 one-small _ (Tells.done v p) = subst (λ (n : ℕ). n < 4294967296) (sym (ap (λ (v : List ℤ). valueOf (reply.done v)) (p .is))) (p .small)
 
 count-told : (a : Answer) → Tells One a → (n v before : ℕ) → n ≡ a .number → v ≡ settled a (valueOf a) before → (a ≡ counted n v) × Keeps n before v
-count-told a t = value-told a (one-value a t)
+count-told a t = value-told a (as-value a t)
 
 pub draws-small : (d : Drawing) (s t : List ℕ) (a : Answer) → Draws d s a t → Tells One (d .answer (length s)) → valueOf a < 4294967296
 draws-small d s t a h p = one-small a (subst (Tells One) (sym (h .tells)) p)
@@ -124,7 +124,8 @@ lists-count a b xs ys xs′ ys′ r n v before h p e =
 
 -- the same of writing a record, whose count may have 64 bits, and of an equal figure
 pub writes-count : (filled ink : ℕ) (f g : Figure) (s t : List ℕ) (a : Answer) (n v : ℕ) → f ≡ g → Writes filled ink f s a t
-    → Tells Value (writeAnswer filled f (length s)) → (n ≡ a .number) × (v ≡ settled a (valueOf a) filled) → Writes filled ink g s (counted n v) t × Keeps n filled v
+    → Tells Value (writeAnswer filled f (length s)) → (n ≡ a .number) × (v ≡ settled a (valueOf a) filled)
+    → Writes filled ink g s (counted n v) t × Keeps n filled v
 writes-count filled ink f g s t a n v same h p e =
     let q = value-told a (subst (Tells Value) (sym (h .tells)) p) n v filled (e .0) (e .1) in
     (writes-as filled ink f g s (counted n v) t same (subst (λ (b : Answer). Writes filled ink f s b t) (q .0) h), q .1)
