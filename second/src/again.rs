@@ -23,6 +23,11 @@ pub struct Thrown {
 }
 
 impl Again {
+    /// A file that is written to a buffer of its own length, with nothing thrown in.
+    pub fn of(size: Size, file: &[u8]) -> Again {
+        Again { size, room: file.len(), thrown: Vec::new(), file: file.to_vec() }
+    }
+
     /// Writes the figures through the library from count 0 on, and compares each write with the rules; in the end as many bytes
     /// are filled as the file has.
     pub fn write(&self, rules: &Rules, bytes: &mut [u8], filled: &mut u64) -> Result<(), String> {

@@ -1,4 +1,5 @@
 //! One case, drawn by the library between guard pages and by the second program, and compared.
+use crate::again::Again;
 use crate::case::{places, Case, Job, Size, MOST_BUFFER, MOST_BYTES, MOST_PLACES, MOST_WORK};
 use crate::guard::{Against, Guarded};
 use crate::native::{self, Cells, Lent};
@@ -108,10 +109,13 @@ impl Room {
                 short(&mut |value| native::fill(Lent { bytes: sheet, width, height, pitch }, *fill, work, value))
             }
             Job::Next(_) => return Ok(()),
-            Job::File(_, bytes) => {
+            Job::File(size, bytes) => {
                 let file = self.file.lend::<u8>(bytes.len(), against);
                 file.copy_from_slice(bytes);
                 let value = &mut self.value.lend::<u64>(1, against)[0];
+                if sound(rules, bytes) {
+                    Again::of(*size, bytes).write(rules, buffer, value)?;
+                }
                 *value = before.value;
                 let number = native::file(Lent { bytes: sheet, width, height, pitch }, file, value);
                 if file != bytes {
@@ -165,7 +169,8 @@ impl Outcome {
         let (mut sheet, mut work, mut buffer) = (Vec::new(), Vec::new(), Vec::new());
         let (mut lists, mut calls) = ([Vec::new(), Vec::new()], Vec::new());
         match &case.job {
-            Job::Cells(size, ..) | Job::Metres(size, ..) | Job::File(size, _) => sheet = random.bytes(size.len),
+            Job::Cells(size, ..) | Job::Metres(size, ..) => sheet = random.bytes(size.len),
+            Job::File(size, file) => (sheet, buffer) = (random.bytes(size.len), random.bytes(file.len())),
             Job::Fill(size, fill, places, ground) => {
                 sheet.resize(size.len, 0);
                 ground.lay(&mut random, &mut Sheet { shape: size.shape(), bytes: &mut sheet }, *fill);
@@ -192,7 +197,12 @@ impl Outcome {
         let Reply { number, value } = match job {
             Job::Cells(_, ink, figure) => rules.draw(&mut sheet, *ink, &widened(figure)),
             Job::Metres(_, ink, survey, figure) => rules.draw_metres(&mut sheet, *ink, *survey, *figure),
-            Job::File(_, bytes) => rules.draw_file(&mut sheet, bytes),
+            Job::File(_, bytes) => {
+                if sound(rules, bytes) {
+                    self.buffer.copy_from_slice(bytes);
+                }
+                rules.draw_file(&mut sheet, bytes)
+            }
             Job::Fill(_, fill, ..) => rules.fill(&mut sheet, *fill, &mut self.work),
             Job::Next(_) => Reply { number: self.calls[0].number, value: None },
             Job::Write(_, _, ink, figure) => {
@@ -210,6 +220,11 @@ impl Outcome {
         self.number = number;
         self.value = value.unwrap_or(self.value);
     }
+}
+
+/// Whether a file is accepted, whatever it is drawn on; such a one is also written again.
+fn sound(rules: &Rules, file: &[u8]) -> bool {
+    rules.read(file, |_, _| ()).is_ok()
 }
 
 pub fn widened(figure: &Cells) -> Figure {
@@ -234,6 +249,7 @@ fn points<const P: usize>(numbers: &[i32]) -> [Cell; P] {
 mod tests {
     use super::*;
     use crate::rule::{refusal, Bad};
+    use crate::writer::{append, Writer};
     use std::cell::RefCell;
     use std::collections::BTreeMap;
 
@@ -245,6 +261,31 @@ mod tests {
     fn noted(figure: &Figure) -> Option<Bad> {
         ASKED.with_borrow_mut(|asked| asked.push(figure.clone()));
         refusal(figure)
+    }
+
+    /// A writer that leaves the count, which every sound file that has a record shows.
+    #[test]
+    fn every_sound_file_is_written_again() {
+        let right = Rules::document();
+        let writer = Writer {
+            append: |rules, buffer, ink, figure| append(rules, &mut copy(buffer), ink, figure),
+            ..right.writer
+        };
+        let wrong = Rules { writer, ..right };
+        let (mut room, mut written) = (Room::default(), 0);
+        for seed in 0..1000 {
+            for case in [Case::file(seed), Case::damaged(seed)] {
+                let Job::File(_, file) = &case.job else { unreachable!() };
+                let due = sound(&right, file) && !file.is_empty();
+                assert_eq!(room.compare(&wrong, &case).is_err(), due, "{case}");
+                written += u32::from(due);
+            }
+        }
+        assert!(written >= 200, "only {written} files were written again");
+    }
+
+    fn copy<'a>(buffer: &'a mut Buffer) -> Buffer<'a> {
+        Buffer { bytes: buffer.bytes, filled: buffer.filled }
     }
 
     const ZEROS: [&str; 4] = ["a radius of 0", "both axes 0", "the first axis 0", "the second axis 0"];
