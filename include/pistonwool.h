@@ -28,7 +28,7 @@
 #include <stdint.h>
 
 /* the version of this header and of the library installed with it */
-#define PW_VERSION "0.3.2"
+#define PW_VERSION "0.3.3"
 
 #if SIZE_MAX != UINT64_MAX
 #error "Pistonwool is for 64-bit machines only"
@@ -39,7 +39,8 @@ extern "C" {
 #endif
 
 /* What each number is given for. Where several apply, the first in this order: 1, 15; then for a fill 17, 18; for figures in
- * metres 6, 7; for a record 8, 16, 9, 10; then 2, 3, 4; 5 of a listing is last, and so is 11 of a record that is written. */
+ * metres 6, 7; for a record 8, 16, 9, 10; then 2, 3, 4; 5 of a listing is last, and so is 11 of a record that is written; for a
+ * rescue 11, 5. */
 enum pw_reply {
     /* done */
     PW_DONE = 0,
@@ -51,7 +52,7 @@ enum pw_reply {
     PW_RADIUS = 3,
     /* an s above 6 */
     PW_PIECES = 4,
-    /* a lent list with fewer places than the line has cells */
+    /* a lent list with fewer places than the line has cells, or than the file to be rescued has bytes */
     PW_ROOM = 5,
     /* an origin of the survey that is not finite, or a cell size that is not finite or not above zero */
     PW_SURVEY = 6,
@@ -63,7 +64,7 @@ enum pw_reply {
     PW_KIND = 9,
     /* a record length that is not that of its kind */
     PW_LENGTH = 10,
-    /* a buffer with fewer free bytes than the record takes */
+    /* a buffer with fewer free bytes than the record takes, or with fewer bytes than the file to be rescued */
     PW_FULL = 11,
     /* a slice length other than pitch x height */
     PW_SLICE = 15,
@@ -156,6 +157,17 @@ uint32_t pw_write_curve(uint8_t *buffer, size_t len, uint64_t *filled, uint8_t i
 /* Appends the cubic curve with these control points and s, in 22 bytes. */
 uint32_t pw_write_cubic(uint8_t *buffer, size_t len, uint64_t *filled, uint8_t ink, int32_t x0, int32_t y0,
                         int32_t x1, int32_t y1, int32_t x2, int32_t y2, int32_t x3, int32_t y3, uint32_t s);
+
+/* Rescues a damaged record file of n bytes: each record that reads well is copied to copy, unaltered and in order; one that is
+ * refused though its length fits the bytes left is left out; and where the length does not fit them (PW_SHORT) the rescue
+ * stops, since nobody can tell where the next record begins. Each record left out, and the place where it stopped, is listed in
+ * the file's order: in offsets the offset of its first byte (not that of the offending field, which pw_file tells), in numbers
+ * the number it is refused with.
+ * *copied is then how many bytes were copied, which are a file that pw_file draws, and *listed how many places of each list were
+ * filled: 0 exactly where the whole file is sound. Bytes and places after those keep what they held.
+ * Lend n bytes or more for the copy (else PW_FULL), and n places or more in each list (else PW_ROOM). */
+uint32_t pw_rescue(const uint8_t *file, size_t n, uint8_t *copy, size_t room, uint64_t *offsets, size_t no,
+                   uint64_t *numbers, size_t nn, uint64_t *copied, uint64_t *listed);
 
 /* The same figures in metres, by a survey: the origins east and north, and the size of a cell.
  *
