@@ -80,7 +80,7 @@ read-back n i m f s t b w = by _ _ refl (outcome n i f s _ t w)
     by _ _ e (left q) = absurd (true≢false (sym (ap isDone e) ∙ number-not-0 q))
 
 -- a file of records that follow each other, after other bytes
-items-read : (q : List ℕ) (ws : List Item) → AllSound ws → readFrom (q ++ allBytes ws) (length q) ≡ holds (recordsFrom (length q) ws)
+pub items-read : (q : List ℕ) (ws : List Item) → AllSound ws → readFrom (q ++ allBytes ws) (length q) ≡ holds (recordsFrom (length q) ws)
 unfolding recordsFrom
 items-read q [] l = from-end (q ++ []) (length q) (at-end (q ++ []) (length q) (omega (arith, length-append q [])))
 items-read q (w ∷ ws) l =

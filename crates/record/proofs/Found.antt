@@ -9,7 +9,7 @@ use lib.Dec.{leb, eqb}
 use lib.ListN.{length, getD, length-take, length-drop}
 use Rattle.sheet.specs.Sheet as sheet
 use Rattle.sheet.specs.declared.Refusal.{Refusal}
-use Rattle.sheet.specs.declared.Refusal.the-variants.{Kind, Length}
+use Rattle.sheet.specs.declared.Refusal.the-variants.{Short, Kind, Length, Kindless}
 use Rattle.record.specs.Layout.{Field, lengthWord, kindWord, ink, coordinate, radius, axisA, axisB, pieces, Form, byte, word, signedWord, form, formWidth, Row, wordAt, width, valueAt, widths, kindPlace, payloadPlace, lineRow, circleRow, ellipseRow, curveRow, cubicRow, table, forKind}
 use Rattle.record.specs.Reading.{Found, found, end, refused, unlessAt, valuesFrom, axisAt, limited, limitedFrom, rowFound, kindFound, payloadAt, foundAt}
 
@@ -80,14 +80,14 @@ pub row-found : (row : Row) (p : List ℕ) (at next : ℕ) → Counts row → le
 unfolding rowFound
 row-found row p at next c e l = simp (eq-eqb (width kindWord + length p) (row .length) (omega arith)) (fields-pass (row .payload) p 0 (payloadPlace at) _ l)
 
+by-test : (P : Found → Type 0) (t : Bool) (f g : Found) → (t ≡ true → P f) → (t ≡ false → P g) → P (cond t f g)
+by-test P true f g a b = a refl
+by-test P false f g a b = b refl
+
 -- of a record at an offset, in a file of n bytes: what a refusal names is a byte of the file, at or after the record's first
 module _ (at n : ℕ) (P : Found → Type 0) (no : (r : Refusal) (o : ℕ) → at ≤ o → o < n → P (refused r o)) where
-  by-test : (t : Bool) (f g : Found) → (t ≡ true → P f) → (t ≡ false → P g) → P (cond t f g)
-  by-test true f g a b = a refl
-  by-test false f g a b = b refl
-
   passing : (t : Bool) (r : Refusal) (o : ℕ) (f : Found) → at ≤ o → o < n → (t ≡ true → P f) → P (unlessAt t r o f)
-  passing t r o f a b h = by-test t f (refused r o) h (λ e. no r o a b)
+  passing t r o f a b h = by-test P t f (refused r o) h (λ e. no r o a b)
 
   limited-has : (g : Field) (p : List ℕ) (k o : ℕ) (f : Found) → at ≤ o → o < n → (Limited g p k → P f) → P (limited g p k o f)
   limited-has lengthWord p k o f a b h = h tt
@@ -124,28 +124,39 @@ module _ (at n : ℕ) (P : Found → Type 0) (no : (r : Refusal) (o : ℕ) → a
     rows-have : (rows : List Row) → Each Counts rows → Each Made rows → P (forKind rows kind (λ row. rowFound row p at next) (refused Kind (kindPlace at)))
     rows-have [] c m = no Kind (kindPlace at) (omega arith) (omega arith)
     rows-have (row ∷ rows) c m =
-        by-test (eqb kind (row .kind)) _ _ (λ e. row-has row (c .0) (m .0) (eqb-true kind (row .kind) e)) (λ e. rows-have rows (c .1) (m .1))
+        by-test P (eqb kind (row .kind)) _ _ (λ e. row-has row (c .0) (m .0) (eqb-true kind (row .kind) e)) (λ e. rows-have rows (c .1) (m .1))
 
     pub kind-has : Each Made table → P (kindFound kind p at next)
     unfolding kindFound
     kind-has m = rows-have table table-counts m
 
-module _ (s : List ℕ) (at : ℕ) (P : Found → Type 0) (no : (r : Refusal) (o : ℕ) → at ≤ o → o < length s → P (refused r o)) where
-  pub found-has : (length s ≤ at → P end)
+-- by the tests of a record's length: 8 before it is known to fit the bytes that are left, and no other refusal before that
+module _ (s : List ℕ) (at : ℕ) (P : Found → Type 0) where
+  pub found-cases : (length s ≤ at → P end) → (at < length s → P (refused Short at)) → (kindPlace at + wordAt s at ≤ length s → P (refused Kindless at))
       → (payloadPlace at ≤ kindPlace at + wordAt s at → kindPlace at + wordAt s at ≤ length s → payloadPlace at + length (payloadAt s at) ≤ length s
       → P (kindFound (wordAt s (kindPlace at)) (payloadAt s at) at (kindPlace at + wordAt s at)))
       → P (foundAt s at)
   unfolding foundAt
-  found-has h k =
-      let tests = passing at (length s) P no in
-      by-test at (length s) P no (leb (length s) at) _ _ (λ e. h (leb-true (length s) at e))
+  found-cases h short kindless k =
+      by-test P (leb (length s) at) _ _ (λ e. h (leb-true (length s) at e))
       (λ e.
       let a = leb-false (length s) at e in
-      tests (leb 2 (length s - at)) _ at _ (omega arith) (omega arith)
-      (λ f. tests (leb (wordAt s at) (length s - at - 2)) _ at _ (omega arith) (omega arith)
-      (λ g. tests (leb 2 (wordAt s at)) _ at _ (omega arith) (omega arith)
-      (λ i.
+      by-test P (leb 2 (length s - at)) _ _
+      (λ f.
       let b = leb-true 2 (length s - at) f in
+      by-test P (leb (wordAt s at) (length s - at - 2)) _ _
+      (λ g.
       let c = leb-true (wordAt s at) (length s - at - 2) g in
+      by-test P (leb 2 (wordAt s at)) _ _
+      (λ i.
       let d = leb-true 2 (wordAt s at) i in
-      k (omega arith) (omega arith) (simp (length-take, length-drop) (omega arith))))))
+      k (omega arith) (omega arith) (simp (length-take, length-drop) (omega arith)))
+      (λ i. kindless (omega arith)))
+      (λ g. short (omega arith)))
+      (λ f. short (omega arith)))
+
+  pub found-has : ((r : Refusal) (o : ℕ) → at ≤ o → o < length s → P (refused r o)) → (length s ≤ at → P end)
+      → (payloadPlace at ≤ kindPlace at + wordAt s at → kindPlace at + wordAt s at ≤ length s → payloadPlace at + length (payloadAt s at) ≤ length s
+      → P (kindFound (wordAt s (kindPlace at)) (payloadAt s at) at (kindPlace at + wordAt s at)))
+      → P (foundAt s at)
+  found-has refuses h k = found-cases h (λ a. refuses Short at (omega arith) a) (λ a. refuses Kindless at (omega arith) (omega arith)) k

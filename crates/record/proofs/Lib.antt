@@ -14,6 +14,11 @@ mod Rowed
 mod Same
 pub mod Again
 pub mod Empty
+mod Ended
+mod Between
+mod Parts
+pub mod Rescued
+mod Saving
 mod Counting
 pub mod Unique
 pub mod Examples

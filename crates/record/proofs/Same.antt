@@ -37,15 +37,15 @@ abbrev recordsOf : Contents → List Record
 recordsOf (holds rs) = rs
 recordsOf (refuses q at) = []
 
-never-holds : (q : Refusal) (at : ℕ) (rs : List Record) → refuses q at ≡ holds rs → ⊥
+pub never-holds : (q : Refusal) (at : ℕ) (rs : List Record) → refuses q at ≡ holds rs → ⊥
 never-holds q at rs e = let z : _≡_ {A = ℕ} 0 1 = cc in omega arith
 
-record Holds (r : Record) (k : Contents) (rs : List Record) : Type 0 where
-  rest : List Record
-  after : k ≡ holds rest
-  is : rs ≡ r ∷ rest
+pub record Holds (r : Record) (k : Contents) (rs : List Record) : Type 0 where
+  pub rest : List Record
+  pub after : k ≡ holds rest
+  pub is : rs ≡ r ∷ rest
 
-from-holds : (r : Record) (k : Contents) (rs : List Record) → also r k ≡ holds rs → Holds r k rs
+pub from-holds : (r : Record) (k : Contents) (rs : List Record) → also r k ≡ holds rs → Holds r k rs
 from-holds r (holds rest) rs e = record { rest = rest; after = refl; is = sym (ap recordsOf e) }
 from-holds r (refuses q at) rs e = absurd (never-holds q at rs e)
 

@@ -1,19 +1,24 @@
 -- What only the inner functions promise each other.
-use Prim.Native.Nat.{ℕ, _+_}
+use Prim.Native.Nat.{ℕ, _+_, _≤_}
+use mathlib.Core.Path.{_≡_}
 use mathlib.Core.List.{List, _++_}
 use mathlib.Core.Bool.{cond, _&&_}
 use lib.IntN.{ℤ, pos}
-use lib.ListN.{getD}
+use lib.ListN.{length, getD}
 use Rattle.sheet.specs.Sheet as sheet
+use Rattle.sheet.specs.Reply.{number}
 use Rattle.sheet.specs.declared.Cell.{Cell}
+use Rattle.sheet.specs.declared.Refusal.{Refusal}
 use Rattle.sheet.specs.declared.Reply.{Reply}
 use Rattle.sheet.specs.declared.Reply.the-variants as reply
 use Rattle.record.specs.Layout.{lengthWord, kindWord, ink, coordinate, wordAt, valueAt}
-use Rattle.record.specs.Reading.{axisAt}
+use Rattle.record.specs.Reading.{axisAt, readAt}
 use Rattle.record.specs.Writing.{fieldBytes}
+use Rattle.record.specs.Rescue.{Lent}
 use Rattle.record.specs.declared.CellField.{CellField}
 use Rattle.record.specs.declared.NumberField.{NumberField}
 use Rattle.record.specs.declared.ThreeField.{ThreeField}
+use Rattle.record.specs.declared.types.Record.{Record}
 use Rattle.record.specs.declared.types.Read.{Read}
 use Rattle.record.specs.declared.types.Read.the-variants as read
 
@@ -60,3 +65,28 @@ headBytes counts kind i = fieldBytes lengthWord (pos counts) ++ fieldBytes kindW
 
 abbrev pub cellBytes : Cell → List ℕ
 cellBytes c = fieldBytes coordinate (c .x) ++ fieldBytes coordinate (c .y)
+
+-- Records that read well one after another, from an offset to another.
+pub data Follow (s : List ℕ) (from : ℕ) : ℕ → Type 0 where
+  none : Follow s from from
+  more : (at : ℕ) (r : Record) → Follow s from at → read.Record r ≡ readAt s at → Follow s from (r .next)
+
+-- what ends them: the file's end for 0, else a refusal of that number
+pub data Ends (s : List ℕ) (at : ℕ) : ℕ → Type 0 where
+  fileEnds : read.End ≡ readAt s at → Ends s at 0
+  refused : (q : Refusal) (o : ℕ) → read.Refused q o ≡ readAt s at → Ends s at (number q)
+
+pub record Ran (s : List ℕ) (from end number : ℕ) : Type 0 where
+  pub follow : Follow s from end
+  pub ends : Ends s end number
+
+abbrev pub endNumber : Read → ℕ
+endNumber (read.Record r) = 0
+endNumber read.End = 0
+endNumber (read.Refused q o) = number q
+
+-- what is lent to a rescue has room for all of a file
+pub record HasRoom (s : List ℕ) (l : Lent) : Type 0 where
+  pub copy : length s ≤ length (l .copy)
+  pub offsets : length s ≤ length (l .offsets)
+  pub numbers : length s ≤ length (l .numbers)

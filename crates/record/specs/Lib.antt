@@ -4,3 +4,5 @@ pub mod Layout
 pub mod Reading
 pub mod Writing
 pub mod Again
+pub mod Rescue
+pub mod Rescued

@@ -1,13 +1,16 @@
-// The record file: what stands at an offset, a whole file read to its end, and writing a record.
+// The record file: what stands at an offset, a whole file read to its end, rescuing a damaged one, and writing a record.
+mod rescuing;
 mod types;
 mod writing;
 
+pub use rescuing::rescue;
 use sheet::Cell;
 use sheet::Figure;
 use sheet::Refusal;
 use sheet::Reply;
 pub use types::Read;
 pub use types::Record;
+pub use types::Rescue;
 pub use writing::write;
 pub use writing::write_circle;
 pub use writing::write_cubic;

@@ -1,4 +1,4 @@
-// What a record of a file holds, and what reading one answers.
+// What a record of a file holds, and what reading one and rescuing a file answer.
 use sheet::Figure;
 use sheet::Refusal;
 
@@ -15,4 +15,10 @@ pub enum Read {
     Record(Record),
     End,
     Refused(Refusal, usize),
+}
+
+// What comes of a rescue: how many bytes were copied and how many places of each list filled, or why none was.
+pub enum Rescue {
+    Done(usize, usize),
+    Refused(Refusal),
 }

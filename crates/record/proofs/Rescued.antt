@@ -1,0 +1,232 @@
+-- Document 02, K11: what a rescue keeps, and that nothing is lost without a line saying so.
+use Prim.Native.Nat.{ℕ, suc, _+_, _-_, _≤_, _<_}
+use mathlib.Core.Path.{_≡_, refl, sym, subst, ap, ap₂, _∙_}
+use mathlib.Core.List.{List, [], _∷_, _++_, append-assoc, map}
+use mathlib.Core.Bool.{Bool, true, false, cond, _&&_, true≢false}
+use native.Mathlib.Omega.{arith}
+use borrow.Author.Tests.{leb-true, leb-false}
+use lib.Dec.{leb}
+use lib.IntN.{ℤ, pos}
+use lib.ListN.{length, getD, take, drop, drop-of-length-le, length-drop, length-append}
+use lib.Seq.{take-at, drop-at}
+use Rattle.sheet.specs.Reply.{Answer, number, done, refuse, unless, isDone, valueOf, settled}
+use Rattle.sheet.specs.declared.Refusal.{Refusal}
+use Rattle.sheet.specs.declared.Refusal.the-variants.{Room, Full}
+use Rattle.sheet.proofs.Figures.{Sound}
+use Rattle.sheet.proofs.Unique.{number-not-0}
+use Rattle.record.specs.Reading.{readAt}
+use Rattle.record.specs.File.{holds, also, readFrom, readAll}
+use Rattle.record.specs.Writing.{recordBytes, recordSize, putAt}
+use Rattle.record.specs.Again.{Bytes, Item, itemOf, recordAt, recordsFrom}
+use Rattle.record.specs.Rescue.{Part, sound, leftOut, leftTo, partsFrom, parts, between, soundOnes, copyOf, offsetsOf, numbersOf, Lent, rescueAnswer, rescued, Rescues}
+use Rattle.record.specs.Rescued as specs
+use Rattle.record.specs.Rescued.{Alike, Accepted, Among, Accounted}
+use Rattle.record.specs.declared.types.Record.{Record}
+use Rattle.record.specs.declared.types.Read.the-variants as read
+use Rattle.record.proofs.Again.{items-read}
+use Rattle.record.proofs.Between.{between-drop}
+use Rattle.record.proofs.Onward.{from-record, from-end, from-refusal}
+use Rattle.record.proofs.Parts.{walk-has}
+use Rattle.record.proofs.Records.{record-size}
+use Rattle.record.proofs.Same.{allBytes, AllSound, never-holds, from-holds, record-again}
+use Rattle.record.proofs.Stands.{stands}
+use Rattle.record.proofs.Frames.{at-end}
+
+module _ (s : List ℕ) where
+  -- a sound file
+  abbrev Whole : ℕ → List Part → Type 0
+  Whole at ps = (rs : List Record) → readFrom s at ≡ holds rs → (copyOf s ps ≡ drop at s) × (offsetsOf ps ≡ []) × (numbersOf ps ≡ [])
+
+  whole-from : (at : ℕ) → Whole at (partsFrom s at)
+  whole-from =
+      walk-has s Whole (λ at h rs e. (sym (drop-of-length-le s h), refl, refl))
+      (λ at r ps e rest rs f.
+      let p = stands s at r e in
+      let o = from-holds r (readFrom s (r .next)) rs (sym (from-record s at r e) ∙ f) in
+      let w = rest (o .rest) (o .after) in
+      let joined = between-drop s (r .offset) (r .next) (omega (arith, p .here, p .on)) in
+      (ap (λ (b : List ℕ). between s (r .offset) (r .next) ++ b) (w .0) ∙ joined ∙ ap (λ (n : ℕ). drop n s) (p .here), w .1, w .2))
+      (λ at q o ps e rest rs f. absurd (never-holds q o rs (sym (from-refusal s at q o e) ∙ f)))
+
+  pub whole : (rs : List Record) → readAll s ≡ holds rs → (copyOf s (parts s) ≡ s) × (offsetsOf (parts s) ≡ []) × (numbersOf (parts s) ≡ [])
+  unfolding parts readAll
+  whole rs e = whole-from 0 rs e
+
+  -- an empty list
+  abbrev OfSound : ℕ → List Part → Type 0
+  OfSound at ps = offsetsOf ps ≡ [] → readFrom s at ≡ holds (soundOnes ps)
+
+  sound-from : (at : ℕ) → OfSound at (partsFrom s at)
+  sound-from =
+      walk-has s OfSound (λ at h e. from-end s at (at-end s at h))
+      (λ at r ps e rest f. from-record s at r e ∙ ap (also r) (rest f))
+      (λ at q o ps e rest f. absurd (omega (arith, ap length f)))
+
+  -- every byte
+  before-sound : (r : Record) (i : ℕ) (ps : List Part) → Accounted s i ps → Accounted s i (sound r ∷ ps)
+  before-sound r i ps (Accounted.copied q m a b) = Accounted.copied q (Among.later r (soundOnes ps) m) a b
+  before-sound r i ps (Accounted.listed k h a b) = Accounted.listed k h a b
+
+  before-left : (q : Refusal) (from to i : ℕ) (ps : List Part) → Accounted s i ps → Accounted s i (leftOut q from to ∷ ps)
+  before-left q from to i ps (Accounted.copied r m a b) = Accounted.copied r m a b
+  before-left q from to i ps (Accounted.listed k h a b) = Accounted.listed (suc k) (omega arith) a b
+
+  abbrev AllAccounted : ℕ → List Part → Type 0
+  AllAccounted at ps = (i : ℕ) → at ≤ i → i < length s → Accounted s i ps
+
+  -- a byte from an offset on is in what ends at another, or from that on
+  either : (i next : ℕ) (A : Type 0) → (i < next → A) → (next ≤ i → A) → A
+  either i next A below above = by (leb next i) refl
+    where
+      by : (t : Bool) → leb next i ≡ t → A
+      by true e = above (leb-true next i e)
+      by false e = below (leb-false next i e)
+
+  accounted-from : (at : ℕ) → AllAccounted at (partsFrom s at)
+  accounted-from =
+      walk-has s AllAccounted (λ at h i a b. absurd (omega arith))
+      (λ at r ps e rest i a b.
+      let p = stands s at r e in
+      either i (r .next) (Accounted s i (sound r ∷ ps))
+      (λ c. Accounted.copied r (Among.first (soundOnes ps)) (omega (arith, p .here)) c)
+      (λ c. before-sound r i ps (rest i c b)))
+      (λ at q o ps e rest i a b.
+      let to = leftTo s at (number q) in
+      either i to (Accounted s i (leftOut q at to ∷ ps))
+      (λ c. Accounted.listed 0 (omega arith) a c)
+      (λ c. before-left q at to i ps (rest i c b)))
+
+  module _ (bytes : Bytes s) where
+    -- a record that reads well has the bytes of its ink and figure
+    record Own (r : Record) : Type 0 where
+      ink : r .ink < 256
+      limits : Sound (r .figure)
+      has : between s (r .offset) (r .next) ≡ recordBytes (r .ink) (r .figure)
+
+    own : (at : ℕ) (r : Record) → read.Record r ≡ readAt s at → Own r
+    own at r e =
+        let p = stands s at r e in
+        let a = record-again s bytes at r e in
+        let b = recordBytes (r .ink) (r .figure) in
+        let n : length b ≡ r .next - at =
+        omega (arith, p .on, p .inside, ap length (a .1), length-append b (drop (r .next) s), length-drop (r .next) s, length-drop at s) in
+        record {
+          ink = a .0;
+          limits = p .sound;
+          has = ap (λ (o : ℕ). between s o (r .next)) (p .here) ∙ ap (take (r .next - at)) (sym (a .1)) ∙ take-at b (drop (r .next) s) (r .next - at) n;
+        }
+
+    abbrev AllOwn : List Record → Type 0
+    AllOwn [] = Unit {0}
+    AllOwn (r ∷ rs) = Own r × AllOwn rs
+
+    all-own : (at : ℕ) → AllOwn (soundOnes (partsFrom s at))
+    all-own =
+        walk-has s (λ (at : ℕ) (ps : List Part). AllOwn (soundOnes ps)) (λ at h. tt)
+        (λ at r ps e rest. (own at r e, rest)) (λ at q o ps e rest. rest)
+
+    -- so what is copied is what writing them gives
+    copy-bytes : (ps : List Part) → AllOwn (soundOnes ps) → copyOf s ps ≡ allBytes (map itemOf (soundOnes ps))
+    copy-bytes [] l = refl
+    copy-bytes (sound r ∷ ps) l = ap₂ (λ (b c : List ℕ). b ++ c) (l .0 .has) (copy-bytes ps (l .1))
+    copy-bytes (leftOut q from to ∷ ps) l = copy-bytes ps l
+
+    all-sound : (rs : List Record) → AllOwn rs → AllSound (map itemOf rs)
+    all-sound [] l = tt
+    all-sound (r ∷ rs) l = (l .0 .ink, (l .0 .limits, all-sound rs (l .1)))
+
+    alike : (t q : List ℕ) (n : ℕ) (rs : List Record) → t ≡ q ++ allBytes (map itemOf rs) → length q ≡ n → AllOwn rs
+        → Alike s t rs (recordsFrom n (map itemOf rs))
+    unfolding recordsFrom
+    alike t q n [] e h l = Alike.none
+    alike t q n (r ∷ rs) e h l =
+        let b = recordBytes (r .ink) (r .figure) in
+        let rest = allBytes (map itemOf rs) in
+        let size = record-size (r .ink) (r .figure) in
+        let next = n + recordSize (r .figure) in
+        let here : between t n next ≡ b =
+        ap (λ (t : List ℕ). between t n next) e ∙ ap (take (next - n)) (drop-at q (b ++ rest) n h) ∙ take-at b rest (next - n) (omega (arith, size)) in
+        Alike.next r (recordAt n (itemOf r)) rs (recordsFrom next (map itemOf rs)) refl (l .0 .has ∙ sym here)
+        (alike t (q ++ b) next rs (e ∙ sym (append-assoc q b rest)) (omega (arith, length-append q b, size)) (l .1))
+
+    accepted : Accepted s (copyOf s (parts s)) (parts s)
+    unfolding parts readAll
+    accepted =
+        let rs = soundOnes (partsFrom s 0) in
+        let l = all-own 0 in
+        let copy = copy-bytes (partsFrom s 0) l in
+        record {
+          records = recordsFrom 0 (map itemOf rs);
+          reads = ap (λ (t : List ℕ). readFrom t 0) copy ∙ items-read [] (map itemOf rs) (all-sound rs l);
+          alike = alike _ [] 0 rs copy refl l;
+        }
+
+-- What comes of a rescue: copy and lists where there is room, or nothing.
+data Outcome (s : List ℕ) (l : Lent) : (r : Answer) (t : Lent) → Type 0 where
+  saved : Outcome s l (done (pos (length (copyOf s (parts s))) ∷ pos (length (offsetsOf (parts s))) ∷ [])) (rescued s l)
+  kept : (q : Refusal) → Outcome s l (refuse q) l
+
+module _ (s : List ℕ) (l : Lent) where
+  abbrev After : Answer → Type 0
+  After a = Outcome s l a (settled a (rescued s l) l)
+
+  refuses : (q : Refusal) → After (refuse q)
+  refuses q = subst (λ (t : Bool). Outcome s l (refuse q) (cond t (rescued s l) l)) (sym (number-not-0 q)) (kept q)
+
+  by-test : (t : Bool) (q : Refusal) (a : Answer) → After a → After (unless t q a)
+  by-test true q a h = h
+  by-test false q a h = refuses q
+
+  outcome : (r : Answer) (t : Lent) → Rescues s l r t → Outcome s l r t
+  unfolding rescueAnswer
+  outcome r t w =
+      let answered : After (rescueAnswer s l) =
+      by-test (leb (length s) (length (l .copy))) Full _
+      (by-test (leb (length s) (length (l .offsets)) && leb (length s) (length (l .numbers))) Room _ saved) in
+      let left = settled (rescueAnswer s l) (rescued s l) l in
+      subst (Outcome s l r) (sym (w .leaves)) (subst (λ (a : Answer). Outcome s l a left) (sym (w .tells)) answered)
+
+-- of one that is done
+record Saved (s : List ℕ) (l : Lent) (r : Answer) (t : Lent) : Type 0 where
+  tells : r ≡ done (pos (length (copyOf s (parts s))) ∷ pos (length (offsetsOf (parts s))) ∷ [])
+  copy : t .copy ≡ putAt 0 (copyOf s (parts s)) (l .copy)
+  offsets : t .offsets ≡ putAt 0 (offsetsOf (parts s)) (l .offsets)
+  numbers : t .numbers ≡ putAt 0 (numbersOf (parts s)) (l .numbers)
+
+is-saved : (s : List ℕ) (l : Lent) (r : Answer) (t : Lent) → isDone r ≡ true → Outcome s l r t → Saved s l r t
+unfolding rescued
+is-saved s l _ _ e Outcome.saved = record { tells = refl; copy = refl; offsets = refl; numbers = refl }
+is-saved s l _ _ e (Outcome.kept q) = absurd (true≢false (sym e ∙ number-not-0 q))
+
+-- the first bytes of a done rescue are the copy
+saved-copy : (s : List ℕ) (l : Lent) (n k : ℕ) (t : Lent) → Rescues s l (done (pos n ∷ pos k ∷ [])) t
+    → (n ≡ length (copyOf s (parts s))) × (take n (t .copy) ≡ copyOf s (parts s))
+saved-copy s l n k t h =
+    let S = is-saved s l _ t refl (outcome s l _ t h) in
+    let e : n ≡ length (copyOf s (parts s)) = ap valueOf (S .tells) in
+    (e, ap₂ take e (S .copy) ∙ take-at (copyOf s (parts s)) _ _ refl)
+
+copied-twice : (s : List ℕ) → Bytes s → (lent left again after : Lent) (n k : ℕ) (r : Answer)
+    → Rescues s lent (done (pos n ∷ pos k ∷ [])) left → Rescues (take n (left .copy)) again r after → isDone r ≡ true
+    → (r ≡ done (pos n ∷ pos 0 ∷ [])) × (take n (after .copy) ≡ take n (left .copy)) × (after .offsets ≡ again .offsets) × (after .numbers ≡ again .numbers)
+copied-twice s bytes lent left again after n k r h g e =
+    let c = copyOf s (parts s) in
+    let first = saved-copy s lent n k left h in
+    let S = is-saved c again r after e (outcome c again r after (subst (λ (b : List ℕ). Rescues b again r after) (first .1) g)) in
+    let w = whole c _ (accepted s bytes .reads) in
+    let copy : after .copy ≡ putAt 0 c (again .copy) = S .copy ∙ ap (λ (b : List ℕ). putAt 0 b (again .copy)) (w .0) in (
+      S .tells ∙ ap₂ (λ (a b : ℕ). done (pos a ∷ pos b ∷ [])) (ap length (w .0) ∙ sym (first .0)) (ap length (w .1)),
+      ap₂ take (first .0) copy ∙ take-at c _ _ refl ∙ sym (first .1),
+      S .offsets ∙ ap (λ (b : List ℕ). putAt 0 b (again .offsets)) (w .1),
+      S .numbers ∙ ap (λ (b : List ℕ). putAt 0 b (again .numbers)) (w .2),
+    )
+
+pub rescued-holds : specs.Rescued
+unfolding parts readAll
+rescued-holds = record {
+  accepted = accepted;
+  whole = whole;
+  sound = λ s e. sound-from s 0 e;
+  twice = copied-twice;
+  accounted = λ s i h. accounted-from s 0 i (omega arith) h;
+}
