@@ -24,8 +24,9 @@ use Rattle.sheet.proofs.Unique.{number-not-0}
 use Rattle.line.specs.Listing.{listAnswer, ListsInto}
 use Rattle.fill.specs.Fill.{fillAnswer, Fills, Spares}
 use Rattle.record.specs.Writing.{writeAnswer, Writes}
+use Rattle.record.specs.Rescue.{Lent, Rescues}
 use Rattle.record.proofs.Written.{writes-as}
-use Rattle.pistonwool.specs.Told.{numbered, counted, Keeps}
+use Rattle.pistonwool.specs.Told.{numbered, counted, twoCounted, Keeps}
 
 -- a cell, as the machine reads its coordinates back from their bits
 pub cell-back : (x y : ℤ) → SFits w32 x → SFits w32 y → cell (toZ w32 (ofZ w32 x)) (toZ w32 (ofZ w32 y)) ≡ cell x y
@@ -129,3 +130,10 @@ pub writes-count : (filled ink : ℕ) (f g : Figure) (s t : List ℕ) (a : Answe
 writes-count filled ink f g s t a n v same h p e =
     let q = value-told a (subst (Tells Value) (sym (h .tells)) p) n v filled (e .0) (e .1) in
     (writes-as filled ink f g s (counted n v) t same (subst (λ (b : Answer). Writes filled ink f s b t) (q .0) h), q .1)
+
+-- of a rescue that is refused C is told the number alone, whatever stands in the two places
+pub refused-told : (q : Refusal) (d v w : ℕ) → d ≡ number q → refuse q ≡ twoCounted d v w
+refused-told q d v w e = rw e (simp (number-not-0 q))
+
+pub rescues-as : {s : List ℕ} {l t : Lent} {a b : Answer} → a ≡ b → Rescues s l a t → Rescues s l b t
+rescues-as {s} {l} {t} e h = subst (λ (a : Answer). Rescues s l a t) e h

@@ -5,7 +5,8 @@ use mathlib.Core.Bool.{Bool, true, false}
 use borrow.Author.Tests.{eqb-true, eqb-false}
 use lib.Dec.{eqb}
 use Rattle.sheet.specs.Reply.{Answer, valueOf}
-use Rattle.pistonwool.specs.Told.{numbered, counted, replied, Keeps}
+use Rattle.sheet.specs.Figure.{numberIn}
+use Rattle.pistonwool.specs.Told.{numbered, counted, twoCounted, replied, Keeps}
 
 pub numbered-one : (n m : ℕ) → numbered n ≡ numbered m → n ≡ m
 numbered-one n m e = ap (λ (a : Answer). a .number) e
@@ -29,3 +30,20 @@ kept-one n m before v w e h g = by (eqb n 0) refl
     by : (t : Bool) → eqb n 0 ≡ t → v ≡ w
     by true z = counted-one n m v w e .1 (eqb-true n 0 z)
     by false z = h (eqb-false n 0 z) ∙ sym (g (λ o. eqb-false n 0 z (counted-one n m v w e .0 ∙ o)))
+
+-- both values of a rescue
+pub two-counted-one : (n m v w p q : ℕ) → twoCounted n v p ≡ twoCounted m w q → (n ≡ m) × (n ≡ 0 → (v ≡ w) × (p ≡ q))
+two-counted-one n m v w p q e =
+    let f : n ≡ m = ap (λ (a : Answer). a .number) e in
+    let g : (z : n ≡ 0) → (v ≡ w) × (p ≡ q) = λ z.
+    let o = sym f ∙ z in (
+      first n v p z ∙ ap valueOf e ∙ sym (first m w q o),
+      second n v p z ∙ ap (λ (a : Answer). numberIn (a .values) 1) e ∙ sym (second m w q o),
+    ) in
+    (f, g)
+  where
+    first : (n v p : ℕ) → n ≡ 0 → v ≡ valueOf (twoCounted n v p)
+    first n v p z = rw z
+
+    second : (n v p : ℕ) → n ≡ 0 → p ≡ numberIn (twoCounted n v p .values) 1
+    second n v p z = rw z

@@ -10,12 +10,15 @@ use Rattle.sheet.specs.Reply.{Answer}
 use Rattle.sheet.specs.declared.Shape.{Shape}
 use Rattle.survey.specs.declared.Survey.{Survey}
 
--- a number alone; one with a value where it is 0; one with a value in any case
+-- a number alone; one with a value, or with two, where it is 0; one with a value in any case
 abbrev pub numbered : ℕ → Answer
 numbered n = record { number = n; values = [] }
 
 abbrev pub counted : ℕ → ℕ → Answer
 counted n v = record { number = n; values = cond (eqb n 0) (pos v ∷ []) [] }
+
+abbrev pub twoCounted : ℕ → ℕ → ℕ → Answer
+twoCounted n v w = record { number = n; values = cond (eqb n 0) (pos v ∷ pos w ∷ []) [] }
 
 abbrev pub replied : ℕ → ℕ → Answer
 replied n v = record { number = n; values = pos v ∷ [] }

@@ -1,4 +1,4 @@
-// What C and Rust link: the drawings on numbers and slices, the pen, and writing records.
+// What C and Rust link: the drawings on numbers and slices, the pen, writing records and rescuing a damaged file.
 // Each answers a number of the table; but a pen that is asked answers 1 for a cell and 0 for finished.
 ghost use mathlib.Core.Path.{_≡_};
 ghost use Prim.Native.Nat.{_<_};
@@ -8,6 +8,7 @@ mod cells;
 mod file;
 mod metres;
 mod pen;
+mod rescuing;
 mod territory;
 mod writing;
 
@@ -21,6 +22,7 @@ pub use metres::pw_ellipse_metres;
 pub use metres::pw_line_metres;
 pub use pen::pw_pen_begin;
 pub use pen::pw_pen_next;
+pub use rescuing::pw_rescue;
 use sheet::Reply;
 pub use territory::pw_fill;
 pub use writing::pw_write_circle;
