@@ -7,7 +7,7 @@ const KIND: usize = 2;
 const INK: usize = 4;
 
 /// A record's ink, its figure and the bytes that it takes; or the number that refuses it and where the field that is named stands.
-fn record(rules: &Rules, rest: &[u8]) -> Result<(u8, Figure, usize), Bad> {
+pub fn record(rules: &Rules, rest: &[u8]) -> Result<(u8, Figure, usize), Bad> {
     if rest.len() < 2 {
         return Err((8, LENGTH));
     }

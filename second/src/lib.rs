@@ -15,6 +15,7 @@ pub mod metres;
 pub mod native;
 pub mod pen;
 pub mod random;
+pub mod rescue;
 pub mod rule;
 pub mod run;
 pub mod teeth;

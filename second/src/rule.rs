@@ -1,5 +1,6 @@
 //! Figures in cells: which cells each has, and the order of the refusals.
 use crate::native::Fill;
+use crate::rescue::Rescuer;
 use crate::writer::Writer;
 
 pub const LEAST: i64 = -16_384;
@@ -87,6 +88,8 @@ pub struct Rules {
     pub offset: fn(usize, usize) -> usize,
     /// What writes a file.
     pub writer: Writer,
+    /// What rescues a file.
+    pub rescuer: Rescuer,
 }
 
 impl Rules {
@@ -109,6 +112,7 @@ impl Rules {
             reads_first: true,
             offset: |record, place| record + place,
             writer: Writer::document(),
+            rescuer: Rescuer::document(),
         }
     }
 
