@@ -3,6 +3,7 @@ use crate::again::{Again, Thrown};
 use crate::ground::Ground;
 use crate::metres::{Metres, Survey};
 use crate::native::{Cells, Fill, Pen};
+use crate::rescued::Rescue;
 use crate::rule::Shape;
 use std::fmt;
 use std::str::{FromStr, SplitWhitespace};
@@ -38,6 +39,8 @@ pub enum Job {
     Write(usize, u64, u8, Cells),
     /// A file is read, and its figures are written again.
     Again(Again),
+    /// A file is rescued, and what is copied of it is drawn.
+    Rescue(Rescue),
 }
 
 /// A job, and the seed of what the lent buffers hold before it.
@@ -57,6 +60,9 @@ pub const MOST_WORK: usize = 4096 * 4096 + 40;
 
 /// The most bytes that a random case lends in a buffer to write to.
 pub const MOST_BUFFER: usize = 1 << 19;
+
+/// The most bytes of a random file that is rescued: its case is still short enough for a word of a command.
+pub const MOST_RESCUED: usize = 65_000;
 
 /// As many places as a line has cells; fewer where no line is that long.
 pub fn places([x0, y0, x1, y1]: [i32; 4]) -> usize {
@@ -82,6 +88,7 @@ impl Job {
             Job::Write(.., Cells::Curve(..)) => "write_curve",
             Job::Write(.., Cells::Cubic(..)) => "write_cubic",
             Job::Again(_) => "again",
+            Job::Rescue(_) => "rescue",
         }
     }
 
@@ -90,6 +97,7 @@ impl Job {
         match self {
             Job::Cells(size, ..) | Job::Metres(size, ..) | Job::File(size, _) | Job::Fill(size, ..) => Some(*size),
             Job::Again(again) => Some(again.size),
+            Job::Rescue(rescue) => Some(rescue.size),
             Job::List(..) | Job::Begin(_) | Job::Next(_) | Job::Write(..) => None,
         }
     }
@@ -169,6 +177,7 @@ impl fmt::Display for Case {
                 }
                 write!(to, " {}", digits(file))
             }
+            Job::Rescue(Rescue { size, lengths, file }) => write!(to, " {size}{} {}", words(lengths), digits(file)),
         }
     }
 }
@@ -256,6 +265,10 @@ impl FromStr for Case {
         if name == "again" {
             return Ok(Case { held, job: again(size, words)? });
         }
+        if name == "rescue" {
+            let job = Job::Rescue(Rescue { size, lengths: numbers(words)?, file: bytes(words)? });
+            return Ok(Case { held, job });
+        }
         if name == "file" {
             return Ok(Case { held, job: Job::File(size, bytes(words)?) });
         }
@@ -282,7 +295,7 @@ mod tests {
     fn a_case_is_read_back_as_it_was_written() {
         for seed in 0..2000 {
             let makes = [Case::figure, Case::file, Case::damaged, Case::pen, Case::fill, Case::write, Case::again];
-            for case in makes.map(|make| make(seed)) {
+            for case in makes.map(|make| make(seed)).into_iter().chain([Case::rescue(seed)]) {
                 let text = case.to_string();
                 let again: Case = text.parse().unwrap();
                 assert_eq!(again.to_string(), text);

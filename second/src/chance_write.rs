@@ -22,10 +22,7 @@ impl Case {
     /// A file that is accepted, and a buffer that has room for it.
     pub fn again(seed: u64) -> Case {
         let mut random = Random(seed);
-        let (width, height) = (random.within(1, 16), random.within(1, 16));
-        let pitch = pitch(&mut random, width);
-        let size =
-            Size { len: (pitch * height) as usize, width: width as u32, height: height as u32, pitch: pitch as u32 };
+        let size = small(&mut random);
         let joined = if random.once_in(50) { random.within(4, 60) } else { random.within(1, 3) };
         let file: Vec<u8> = (0..joined).flat_map(|_| sound_records(&file(&mut random, size))).collect();
         let room = file.len() + random.one_of(&[0, 0, 0, 0, 1, 2, 10, 11, 12, 13, 17, 21, 22, 100]);
@@ -35,6 +32,13 @@ impl Case {
         }
         Case { held: random.number(), job: Job::Again(again) }
     }
+}
+
+/// A sheet that is not refused.
+pub fn small(random: &mut Random) -> Size {
+    let (width, height) = (random.within(1, 16), random.within(1, 16));
+    let pitch = pitch(random, width);
+    Size { len: (pitch * height) as usize, width: width as u32, height: height as u32, pitch: pitch as u32 }
 }
 
 /// A figure of any kind, one in four of them spoilt.

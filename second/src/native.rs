@@ -29,6 +29,8 @@ mod declared {
                               x0: i32, y0: i32, x1: i32, y1: i32, x2: i32, y2: i32, s: u32) -> u32;
         pub fn pw_write_cubic(buffer: *mut u8, len: usize, filled: *mut u64, ink: u8, x0: i32, y0: i32,
                               x1: i32, y1: i32, x2: i32, y2: i32, x3: i32, y3: i32, s: u32) -> u32;
+        pub fn pw_rescue(file: *const u8, n: usize, copy: *mut u8, room: usize, offsets: *mut u64, no: usize,
+                         numbers: *mut u64, nn: usize, copied: *mut u64, listed: *mut u64) -> u32;
         pub fn pw_line_metres(sheet: *mut u8, len: usize, width: u32, height: u32, pitch: u32, ink: u8,
                               east: f64, north: f64, size: f64,
                               x0: f64, y0: f64, x1: f64, y1: f64, cells: *mut u32) -> u32;
@@ -157,4 +159,18 @@ pub fn write(buffer: &mut [u8], filled: &mut u64, ink: u8, figure: Cells) -> u32
             }
         }
     }
+}
+
+pub fn rescue(
+    file: &[u8],
+    copy: &mut [u8],
+    offsets: &mut [u64],
+    numbers: &mut [u64],
+    [copied, listed]: [&mut u64; 2],
+) -> u32 {
+    let (copy, room) = (copy.as_mut_ptr(), copy.len());
+    let (offsets, no) = (offsets.as_mut_ptr(), offsets.len());
+    let (numbers, nn) = (numbers.as_mut_ptr(), numbers.len());
+    // SAFETY: as in `file`.
+    unsafe { declared::pw_rescue(file.as_ptr(), file.len(), copy, room, offsets, no, numbers, nn, copied, listed) }
 }

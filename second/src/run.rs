@@ -5,6 +5,8 @@ use crate::guard::{Against, Guarded};
 use crate::native::{self, Cells, Lent};
 use crate::pen::{self, Call};
 use crate::random::Random;
+use crate::rescue::Rescued;
+use crate::rescued;
 use crate::rule::{Cell, Figure, Reply, Rules, Shape, Sheet};
 use crate::writer::Buffer;
 use std::fmt::Display;
@@ -18,10 +20,11 @@ pub struct Room {
     file: Guarded,
     value: Guarded,
     pen: pen::Room,
+    rescue: rescued::Room,
 }
 
 /// What a case leaves behind: reply, value or filled count, the sheet, the work slice, the buffer that is written to, the
-/// two lists, and each call of a pen.
+/// two lists, each call of a pen, and what a rescue was lent.
 struct Outcome {
     number: u32,
     value: u64,
@@ -30,6 +33,7 @@ struct Outcome {
     buffer: Vec<u8>,
     lists: [Vec<i32>; 2],
     calls: Vec<Call>,
+    rescued: Rescued,
 }
 
 impl Default for Room {
@@ -43,6 +47,7 @@ impl Default for Room {
             file: Guarded::with_room(1 << 16),
             value: Guarded::with_room(8),
             pen: pen::Room::default(),
+            rescue: rescued::Room::default(),
         }
     }
 }
@@ -135,6 +140,14 @@ impl Room {
                 *value = before.value;
                 (native::file(Lent { bytes: sheet, width, height, pitch }, written, value), *value)
             }
+            Job::Rescue(rescue) => {
+                let by_rules = (expected.number, &expected.rescued);
+                let copied = self.rescue.by_library(&rescue.file, &before.rescued, by_rules, against)?;
+                let value = &mut self.value.lend::<u64>(1, against)[0];
+                *value = before.value;
+                let lent = Lent { bytes: sheet, width, height, pitch };
+                (copied.map_or(expected.number, |copied| native::file(lent, &copied, value)), *value)
+            }
         };
         same("reply", &[number], &[expected.number])?;
         same("value", &[value], &[expected.value])?;
@@ -164,10 +177,14 @@ impl Outcome {
     fn before(case: &Case) -> Outcome {
         let mut random = Random(case.held);
         // an export that tells its value in 32 bits is lent 32 bits
-        let most = if matches!(case.job, Job::File(..) | Job::Again(_)) { u64::MAX } else { u64::from(u32::MAX) };
+        let most = if matches!(case.job, Job::File(..) | Job::Again(_) | Job::Rescue(_)) {
+            u64::MAX
+        } else {
+            u64::from(u32::MAX)
+        };
         let mut value = random.number() & most;
         let (mut sheet, mut work, mut buffer) = (Vec::new(), Vec::new(), Vec::new());
-        let (mut lists, mut calls) = ([Vec::new(), Vec::new()], Vec::new());
+        let (mut lists, mut calls, mut rescued) = ([Vec::new(), Vec::new()], Vec::new(), Rescued::default());
         match &case.job {
             Job::Cells(size, ..) | Job::Metres(size, ..) => sheet = random.bytes(size.len),
             Job::File(size, file) => (sheet, buffer) = (random.bytes(size.len), random.bytes(file.len())),
@@ -184,8 +201,11 @@ impl Outcome {
             Job::Next(pen) => calls.push(Call::before(&mut random, Some(*pen))),
             Job::Write(len, filled, ..) => (value, buffer) = (*filled, random.bytes(*len)),
             Job::Again(again) => (sheet, buffer) = (random.bytes(again.size.len), random.bytes(again.room)),
+            Job::Rescue(rescue) => {
+                (sheet, rescued) = (random.bytes(rescue.size.len), Rescued::before(&mut random, rescue.lengths));
+            }
         }
-        Outcome { number: 0, value, sheet, work, buffer, lists, calls }
+        Outcome { number: 0, value, sheet, work, buffer, lists, calls, rescued }
     }
 
     fn by_rules(&mut self, rules: &Rules, job: &Job) {
@@ -211,6 +231,7 @@ impl Outcome {
                 Reply { number, value: Some(buffer.filled) }
             }
             Job::Again(again) => again.by_rules(rules, &mut sheet, &mut self.buffer),
+            Job::Rescue(rescue) => rescue.by_rules(rules, &mut sheet, &mut self.rescued),
             Job::List(_, ends) | Job::Begin(ends) => {
                 let [x0, y0, x1, y1] = ends.map(i64::from);
                 let [xs, ys] = &mut self.lists;

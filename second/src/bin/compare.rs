@@ -1,8 +1,8 @@
 //! Compares the proved library with the second drawing program on random figures, files, damaged files, pens, fills,
-//! writes of one figure and files that are read and written again.
+//! writes of one figure, files that are read and written again, and rescues of damaged files.
 //!
 //!     compare [KIND] [COUNT] [SEED]    COUNT cases of each kind, or of this one: figures, files, damaged, pens, fills,
-//!                                      writes, again
+//!                                      writes, again, rescues
 //!     compare --one CASE               one case, as a difference prints it
 //!     compare --teeth                  wrong second programs, each of which must be caught
 use second::case::{Case, Job};
@@ -26,7 +26,7 @@ const PATIENCE: u64 = 100_000;
 type Make = fn(u64) -> Case;
 
 /// Each kind of case: the word that asks for it, and what its cases are called.
-const KINDS: [(&str, &str, Make); 7] = [
+const KINDS: [(&str, &str, Make); 8] = [
     ("figures", "figures", Case::figure),
     ("files", "files", Case::file),
     ("damaged", "damaged files", Case::damaged),
@@ -34,6 +34,7 @@ const KINDS: [(&str, &str, Make); 7] = [
     ("fills", "fills", Case::fill),
     ("writes", "writes", Case::write),
     ("again", "files again", Case::again),
+    ("rescues", "rescues", Case::rescue),
 ];
 
 thread_local! {
