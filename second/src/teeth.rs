@@ -4,11 +4,12 @@ use crate::rule::{
     Cell, Figure, Rules, Shape, Sheet, Told,
 };
 use crate::teeth_fill::wrong_fills;
+use crate::teeth_rescue::wrong_rescuers;
 use crate::teeth_write::wrong_writers;
 
 /// Each with what is wrong in it.
 pub fn wrong_programs() -> Vec<(&'static str, Rules)> {
-    [wrong_figures(), wrong_fills(), wrong_writers()].concat()
+    [wrong_figures(), wrong_fills(), wrong_writers(), wrong_rescuers()].concat()
 }
 
 fn wrong_figures() -> Vec<(&'static str, Rules)> {
