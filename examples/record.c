@@ -54,7 +54,7 @@ _Noreturn static void stop(const char *words) {
     exit(1);
 }
 
-/* what a refusal is given for, in the header's words */
+/* what a refusal is given for, in the header's words; of PW_FULL those that speak of a record */
 static const char *meaning(uint32_t number) {
     switch (number) {
     case PW_COORDINATE: return "a coordinate outside -16,384 to 16,383";
