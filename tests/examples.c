@@ -1,5 +1,5 @@
-/* examples.c: the checked examples of document 01 that are not starred, those of rings with axes of 0, of cubics and of writing
- * records, each by its words through the library; the last line counts. */
+/* examples.c: the checked examples of document 01 that are not starred, those of rings with axes of 0, of cubics, of writing
+ * records and of rescuing them, each by its words through the library; the last line counts. */
 #include <stdio.h>
 #include <string.h>
 
@@ -239,6 +239,126 @@ static void writers(void) {
     same("as it is", buffer[filled - 7], 255);
 }
 
+/* what is rescued, the lent buffer and lists, and what is told; before, all that is lent holds bytes of 170, and 99 is told */
+enum { PLACES = 128 };
+static uint8_t damaged[PLACES], copy[PLACES];
+static uint64_t offsets[PLACES], numbers[PLACES], copied, listed;
+
+static uint32_t rescue(size_t n, size_t room, size_t no, size_t nn) {
+    memset(copy, 170, sizeof copy);
+    memset(offsets, 170, sizeof offsets);
+    memset(numbers, 170, sizeof numbers);
+    copied = listed = 99;
+    return pw_rescue(damaged, n, copy, room, offsets, no, numbers, nn, &copied, &listed);
+}
+
+/* whether the bytes of the buffer and the places of the lists are as they were, from these on */
+static int stays(size_t bytes, size_t places) {
+    static const uint64_t held = UINT64_C(0xaaaaaaaaaaaaaaaa);
+    for (; bytes < PLACES; bytes++)
+        if (copy[bytes] != 170)
+            return 0;
+    for (; places < PLACES; places++)
+        if (offsets[places] != held || numbers[places] != held)
+            return 0;
+    return 1;
+}
+
+/* a damaged record between a line and a circle: it is left out by this number, and the two are copied */
+static void leaves_out(const char *example, const uint8_t *bytes, size_t size, uint32_t number) {
+    const struct written *line = &records[0], *circle = &records[1];
+    size_t n = line->size + size + circle->size;
+    memcpy(damaged, line->bytes, line->size);
+    memcpy(damaged + line->size, bytes, size);
+    memcpy(damaged + line->size + size, circle->bytes, circle->size);
+    same(example, rescue(n, n, n, n), PW_DONE);
+    same(example, copied == 24 && memcmp(copy, line->bytes, 13) == 0 && memcmp(copy + 13, circle->bytes, 11) == 0, 1);
+    same(example, listed == 1 && offsets[0] == 13 && numbers[0] == number, 1);
+    same("and what lies beyond stays", stays(24, 1), 1);
+    same("what is copied is a file", file((const char *)copy, copied), PW_DONE);
+    same("of two records", (long long)value, 2);
+}
+
+/* a record that is damaged in each of the ways that its kind has: its length, its kind, each of its fields */
+static void each_damage(const struct written *r) {
+    uint8_t bytes[24] = {0};
+    memcpy(bytes, r->bytes, r->size);
+    bytes[0]++;
+    leaves_out("a length that is not that of its kind is left out with 10", bytes, r->size + 1, PW_LENGTH);
+    bytes[0] = 2;
+    leaves_out("and so is one of a kind alone", bytes, 4, PW_LENGTH);
+    bytes[0] = r->bytes[0];
+    bytes[2] = 6;
+    leaves_out("kind 6 is left out with 9", bytes, r->size, PW_KIND);
+    bytes[2] = r->bytes[2];
+    bytes[3] = 1;
+    leaves_out("and so is a kind above 255", bytes, r->size, PW_KIND);
+    bytes[3] = 0;
+    for (int i = 0; i < r->numbers; i++) {
+        uint32_t number = i < r->coordinates ? PW_COORDINATE : r->kind > 3 ? PW_PIECES : PW_RADIUS;
+        size_t at = number == PW_PIECES ? 5 + 2 * (size_t)i : 6 + 2 * (size_t)i;
+        bytes[at] = 0x40;
+        leaves_out("a field outside its limits is left out with 2, 3 or 4", bytes, r->size, number);
+        bytes[at] = r->bytes[at];
+    }
+}
+
+/* document 02, K11 */
+static void rescues(void) {
+    static const uint8_t none[2] = {0}, one[3] = {1, 0, 1}, flat[] = {11, 0, 3, 0, 1, 1, 0, 2, 0, 0, 0, 1, 0};
+    size_t n = 0;
+    same("an empty file is rescued", rescue(0, 0, 0, 0), PW_DONE);
+    same("nothing is copied or listed", copied == 0 && listed == 0 && stays(0, 0), 1);
+
+    for (const struct written *r = records; r < records + KINDS; r++) {
+        memcpy(damaged + n, r->bytes, r->size);
+        n += r->size;
+    }
+    same("a sound file is rescued with exactly the room it takes", rescue(n, n, n, n), PW_DONE);
+    same("it is copied whole, with an empty list", copied == n && memcmp(copy, damaged, n) == 0 && listed == 0 && stays(n, 0), 1);
+    same("and with more room", rescue(n, PLACES, PLACES, PLACES), PW_DONE);
+    same("likewise", copied == n && memcmp(copy, damaged, n) == 0 && listed == 0 && stays(n, 0), 1);
+
+    /* the room is asked for by the file's length, whatever is in it: the buffer's first, then that of either list */
+    static const struct {
+        const char *example;
+        size_t room, no, nn;
+        uint32_t number;
+    } rooms[] = {{"a byte too few is refused with 11", 1, 0, 0, PW_FULL}, {"a place of offsets too few with 5", 0, 1, 0, PW_ROOM},
+        {"a place of numbers too few with 5", 0, 0, 1, PW_ROOM}, {"too few places in both with 5", 0, 1, 1, PW_ROOM},
+        {"too few of all with 11", 1, 1, 1, PW_FULL}, {"too few bytes and offsets with 11", 1, 1, 0, PW_FULL},
+        {"too few bytes and numbers with 11", 1, 0, 1, PW_FULL}};
+    for (size_t i = 0; i < sizeof rooms / sizeof *rooms; i++) {
+        same(rooms[i].example, rescue(n, n - rooms[i].room, n - rooms[i].no, n - rooms[i].nn), rooms[i].number);
+        same("and nothing moves", copied == 99 && listed == 99 && stays(0, 0), 1);
+    }
+    same("no byte at all is refused with 11", rescue(n, 0, 0, 0), PW_FULL);
+    same("no place at all with 5", rescue(n, n, 0, 0), PW_ROOM);
+
+    for (const struct written *r = records; r < records + KINDS; r++)
+        each_damage(r);
+    leaves_out("length 0 is left out with 16", none, sizeof none, PW_KINDLESS);
+    leaves_out("length 1 is left out with 16", one, sizeof one, PW_KINDLESS);
+    leaves_out("a single axis of 0 is left out with 3", flat, sizeof flat, PW_RADIUS);
+
+    /* where a length does not fit what is left the rescue stops, with all that precedes it: a circle, two left out, a line */
+    static const uint8_t cut[] = {9, 0, 2, 0, 1, 255, 255, 2, 0, 3, 0, 0, 0, 2, 0, 9, 0, 11, 0, 1, 0, 1, 0, 0, 0, 0, 2, 0, 1, 0,
+        12, 0, 1, 0, 1, 0, 0, 0, 0, 2, 0, 1, 0};
+    memcpy(damaged, cut, sizeof cut);
+    for (n = 31; n <= sizeof cut; n++) {
+        same("a file that is cut off is rescued", rescue(n, n, n, n), PW_DONE);
+        same("up to there", copied == 24 && memcmp(copy, cut, 11) == 0 && memcmp(copy + 11, cut + 17, 13) == 0, 1);
+        same("with the stop in the list", listed == 3 && offsets[2] == 30 && numbers[2] == PW_SHORT, 1);
+        same("after what is left out", offsets[0] == 11 && numbers[0] == PW_KINDLESS, 1);
+        same("in the file's order", offsets[1] == 13 && numbers[1] == PW_KIND, 1);
+        same("and what lies beyond stays", stays(24, 3), 1);
+    }
+    memset(damaged, 0, sizeof damaged);
+    same("zeros are rescued", rescue(PLACES, PLACES, PLACES, PLACES), PW_DONE);
+    same("each two are left out", copied == 0 && listed == PLACES / 2 && stays(0, PLACES / 2), 1);
+    same("to the last", offsets[PLACES / 2 - 1] == PLACES - 2 && numbers[PLACES / 2 - 1] == PW_KINDLESS, 1);
+}
+
 int main(void) {
     uint32_t cells;
 
@@ -287,6 +407,7 @@ int main(void) {
 
     cubics();
     writers();
+    rescues();
 
     printf("%d passed, %d failed\n", passed, failed);
     return failed != 0;
