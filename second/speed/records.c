@@ -1,5 +1,7 @@
-/* records.c: what a C programmer would write without us to append a record to a buffer and to read a file of records: every limit
- * and the room are tested, and a refusal says where it is, by the numbers of the header. */
+/* records.c: what a C programmer would write without us to append a record to a buffer, to read a file of records and to rescue
+ * a damaged one: every limit and the room are tested, and a refusal says where it is, by the numbers of the header. */
+#include <string.h>
+
 #include "pistonwool.h"
 #include "speed.h"
 
@@ -164,5 +166,31 @@ uint32_t plain_read(const uint8_t *file, size_t n, uint64_t *value) {
         at += length + 2;
     }
     *value = records;
+    return PW_DONE;
+}
+
+uint32_t plain_rescue(const uint8_t *file, size_t n, uint8_t *copy, size_t room, uint64_t *offsets, size_t no,
+                      uint64_t *numbers, size_t nn, uint64_t *copied, uint64_t *listed) {
+    if (room < n)
+        return PW_FULL;
+    if (no < n || nn < n)
+        return PW_ROOM;
+    size_t filled = 0, places = 0;
+    for (size_t at = 0, size; at < n; at += size) {
+        uint32_t length = n - at < 2 ? 0 : word(file + at), place;
+        size = length + 2;
+        uint32_t reply = n - at < size ? PW_SHORT : length < 2 ? PW_KINDLESS : read_record(file + at, length, &place);
+        if (reply == PW_DONE) {
+            memcpy(copy + filled, file + at, size);
+            filled += size;
+            continue;
+        }
+        offsets[places] = at;
+        numbers[places++] = reply;
+        if (reply == PW_SHORT)
+            break;
+    }
+    *copied = filled;
+    *listed = places;
     return PW_DONE;
 }

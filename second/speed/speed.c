@@ -5,7 +5,7 @@
 #include <time.h>
 
 #include "pistonwool.h"
-#include "speed.h"
+#include "table.h"
 
 /* the ways that ratios are told to, after ours: C, C by rows and, where it is there, OpenCV */
 #ifdef OPENCV
@@ -13,14 +13,13 @@ enum { BESIDE = 3 };
 #else
 enum { BESIDE = 2 };
 #endif
-enum { ROUNDS = 15, MOST = 20000, CELLS = 300000, RECORDS = 200, WRITTEN = 10000, FAR = 500, WAYS = 5, COPIED = 1 << 26 };
+enum { ROUNDS = 15, MOST = 20000, CELLS = 300000, RECORDS = 200, WRITTEN = 10000, FAR = 500, COPIED = 1 << 26 };
 
 static size_t length(const struct sheet *s) {
     return (size_t)s->pitch * s->side;
 }
 
-/* stops where something is refused */
-static void done(uint32_t reply) {
+void done(uint32_t reply) {
     if (reply != PW_DONE) {
         fprintf(stderr, "speed: a figure was refused with %u\n", reply);
         exit(1);
@@ -101,12 +100,6 @@ static double now(void) {
     return (double)t.tv_sec * 1e9 + (double)t.tv_nsec;
 }
 
-struct way {
-    draw *draw;
-    size_t figures;
-    double best;
-};
-
 /* nanoseconds for one pass over fills. Each begins on a fresh copy of the sheet, and the copying is not timed; after it a small
  * territory on a large sheet is no longer in the cache, for all ways alike. */
 static double fill_pass(struct sheet *s, const struct way *way, const struct figure *fills) {
@@ -139,9 +132,8 @@ static void told(double ns) {
         printf(" | %.2f", ns);
 }
 
-/* one row of the table: each way's nanoseconds by the unit, and ours as a part of the two in C and OpenCV's; s may be none */
-static void row(const char *name, const char *unit, struct sheet *s, struct way *ways, size_t n,
-                const struct figure *figures, size_t units) {
+void row(const char *name, const char *unit, struct sheet *s, struct way *ways, size_t n, const struct figure *figures,
+         size_t units) {
     for (size_t w = 0; w < n; w++)
         ways[w].best = -1;
     for (int round = 0; round < ROUNDS; round++)
@@ -317,7 +309,7 @@ static int read_all_plainly(struct sheet *none, const struct figure *f) {
     return 1;
 }
 
-static int unable(struct sheet *none, const struct figure *f) {
+int unable(struct sheet *none, const struct figure *f) {
     (void)none, (void)f;
     return 0;
 }
@@ -393,5 +385,6 @@ int main(void) {
         free(s.fresh);
     }
     record_rows(n);
+    rescue_row(n);
     return 0;
 }

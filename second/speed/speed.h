@@ -63,6 +63,9 @@ void libgd_end(void);
 uint32_t plain_append(uint8_t *buffer, size_t len, uint64_t *filled, const struct figure *figure);
 /* in plain C, reads a file as pw_file does before it draws; value is then how many records, or the offset of what is refused */
 uint32_t plain_read(const uint8_t *file, size_t n, uint64_t *value);
+/* in plain C, copies the records of a damaged file that read well and lists the others, as pw_rescue does */
+uint32_t plain_rescue(const uint8_t *file, size_t n, uint8_t *copy, size_t room, uint64_t *offsets, size_t no,
+                      uint64_t *numbers, size_t nn, uint64_t *copied, uint64_t *listed);
 
 /* the ith of the 2^s + 1 joined points of a curve or a cubic */
 void joined(const struct figure *curve, uint32_t i, int32_t *x, int32_t *y);

@@ -1,0 +1,29 @@
+/* table.h: the table that is printed, and who adds rows to it. */
+#ifndef TABLE_H
+#define TABLE_H
+
+#include "speed.h"
+
+enum { WAYS = 5 };
+
+/* a way to draw, how many figures it draws in a pass, and the nanoseconds of its best pass */
+struct way {
+    draw *draw;
+    size_t figures;
+    double best;
+};
+
+/* a way that knows no kind of figure */
+draw unable;
+
+/* stops where something is refused */
+void done(uint32_t reply);
+
+/* one row of the table: each way's nanoseconds by the unit, and ours as a part of the two in C and OpenCV's; s may be none */
+void row(const char *name, const char *unit, struct sheet *s, struct way *ways, size_t n, const struct figure *figures,
+         size_t units);
+
+/* the row of a damaged file that is rescued, with so many ways in it */
+void rescue_row(size_t n);
+
+#endif
