@@ -1,4 +1,5 @@
--- Document 01's examples of records, and document 02's: files, what is read at their first byte, and what the whole file answers; what is written.
+-- Document 01's examples of records, and document 02's: files, what is read at their first byte, and what the whole file answers; what is
+-- written, and what is rescued.
 use Prim.Native.Nat.{ℕ}
 use mathlib.Core.Path.{_≡_, refl}
 use mathlib.Core.List.{List, [], _∷_, map}
@@ -13,6 +14,7 @@ use Rattle.record.specs.Layout.{signed, lineRow, circleRow, ellipseRow, 
 use Rattle.record.specs.Reading.{valuesFrom, limitedFrom, rowFound, kindFound, foundAt, readAt, readAnswer}
 use Rattle.record.specs.Writing.{fieldsBytes, recordBytes}
 use Rattle.record.specs.File.{readIn, readFrom, readAll, fileAnswer}
+use Rattle.record.specs.Rescue.{partsIn, partsFrom, parts, copyOf, offsetsOf, numbersOf}
 
 pub record Example : Type 0 where
   pub file : List ℕ
@@ -110,3 +112,38 @@ writings =
 pub writings-hold : map (λ (w : Writing). recordBytes (w .ink) (w .figure)) writings ≡ map (λ (w : Writing). w .bytes) writings
 unfolding writings recordBytes fieldsBytes table lineRow circleRow ellipseRow curveRow cubicRow
 writings-hold = refl
+
+-- What a rescue copies and lists of a file.
+pub record Rescuing : Type 0 where
+  pub file : List ℕ
+  pub copy : List ℕ
+  pub offsets : List ℕ
+  pub numbers : List ℕ
+
+pub rescuings : List Rescuing
+rescuings =
+    -- the empty file, and a lone byte: 8
+    record { file = []; copy = []; offsets = []; numbers = [] }
+    ∷ record { file = 11 ∷ []; copy = []; offsets = 0 ∷ []; numbers = 8 ∷ [] }
+    -- the line is copied whole
+    ∷ record {
+      file = 11 ∷ 0 ∷ 1 ∷ 0 ∷ 1 ∷ 0 ∷ 0 ∷ 0 ∷ 0 ∷ 2 ∷ 0 ∷ 1 ∷ 0 ∷ [];
+      copy = 11 ∷ 0 ∷ 1 ∷ 0 ∷ 1 ∷ 0 ∷ 0 ∷ 0 ∷ 0 ∷ 2 ∷ 0 ∷ 1 ∷ 0 ∷ [];
+      offsets = [];
+      numbers = [];
+    }
+    -- two zeros, a kind 9 and a circle at x of 16,384, the line after them, and a length that counts one byte more than are left
+    ∷ record {
+      file = 0 ∷ 0 ∷ 3 ∷ 0 ∷ 9 ∷ 0 ∷ 7 ∷ 9 ∷ 0 ∷ 2 ∷ 0 ∷ 5 ∷ 0 ∷ 64 ∷ 255 ∷ 255 ∷ 3 ∷ 0
+          ∷ 11 ∷ 0 ∷ 1 ∷ 0 ∷ 1 ∷ 0 ∷ 0 ∷ 0 ∷ 0 ∷ 2 ∷ 0 ∷ 1 ∷ 0 ∷ 5 ∷ 0 ∷ 1 ∷ 0 ∷ 1 ∷ 0 ∷ [];
+      copy = 11 ∷ 0 ∷ 1 ∷ 0 ∷ 1 ∷ 0 ∷ 0 ∷ 0 ∷ 0 ∷ 2 ∷ 0 ∷ 1 ∷ 0 ∷ [];
+      offsets = 0 ∷ 2 ∷ 7 ∷ 31 ∷ [];
+      numbers = 16 ∷ 9 ∷ 2 ∷ 8 ∷ [];
+    }
+    ∷ []
+
+pub rescuings-hold : (map (λ (r : Rescuing). copyOf (r .file) (parts (r .file))) rescuings ≡ map (λ (r : Rescuing). r .copy) rescuings)
+    × (map (λ (r : Rescuing). offsetsOf (parts (r .file))) rescuings ≡ map (λ (r : Rescuing). r .offsets) rescuings)
+    × (map (λ (r : Rescuing). numbersOf (parts (r .file))) rescuings ≡ map (λ (r : Rescuing). r .numbers) rescuings)
+unfolding rescuings parts partsFrom partsIn readAt foundAt kindFound rowFound limitedFrom valuesFrom table lineRow circleRow ellipseRow curveRow cubicRow signed sheet.coordinate sheet.semiAxis
+rescuings-hold = (refl, refl, refl)

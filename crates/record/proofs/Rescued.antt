@@ -13,7 +13,7 @@ use Rattle.sheet.specs.Reply.{Answer, number, done, refuse, unless, isDone, val
 use Rattle.sheet.specs.declared.Refusal.{Refusal}
 use Rattle.sheet.specs.declared.Refusal.the-variants.{Room, Full}
 use Rattle.sheet.proofs.Figures.{Sound}
-use Rattle.sheet.proofs.Unique.{number-not-0}
+use Rattle.sheet.proofs.Unique.{number-not-0, one-value}
 use Rattle.record.specs.Reading.{readAt}
 use Rattle.record.specs.File.{holds, also, readFrom, readAll}
 use Rattle.record.specs.Writing.{recordBytes, recordSize, putAt}
@@ -230,3 +230,7 @@ rescued-holds = record {
   twice = copied-twice;
   accounted = λ s i h. accounted-from s 0 i (omega arith) h;
 }
+
+-- two replies of one rescue with the same room are equal, and so is what they leave
+pub rescues-one : (s : List ℕ) (l : Lent) (a b : Answer) (t u : Lent) → Rescues s l a t → Rescues s l b u → (a ≡ b) × (t ≡ u)
+rescues-one s l a b t u h g = (one-value a b _ (h .tells) (g .tells), one-value t u _ (h .leaves) (g .leaves))

@@ -18,6 +18,7 @@ use Rattle.record.specs.Again.{Bytes, Item, itemOf}
 use Rattle.record.specs.declared.types.Record.{Record}
 use Rattle.record.specs.declared.types.Read.{Read}
 use Rattle.record.specs.declared.types.Read.the-variants as read
+use Rattle.record.proofs.Ended.{at-file-end}
 use Rattle.record.proofs.Found.{Each, each-as, Counts, length-holds, kind-has, found-has}
 use Rattle.record.proofs.Fields.{fields-again, values-part}
 use Rattle.record.proofs.Stands.{stands}
@@ -73,13 +74,13 @@ module _ (s : List ℕ) (bytes : Bytes s) where
   ink-byte o zero = omega arith
   ink-byte o (suc n) = subst (λ (b : ℕ). b < 256) (sym (getD-take (suc n) (drop o s) 0 0 (omega arith) ∙ getD-drop o s 0 0)) (bytes (o + 0))
 
-  -- a record, and that at the end no byte is left
+  -- a record
   abbrev Again : ℕ → ℕ → ℕ → Figure → Type 0
   Again at next i f = (i < 256) × (recordBytes i f ++ drop next s ≡ drop at s)
 
   abbrev IfAgain : ℕ → Read → Type 0
   IfAgain at (read.Record r) = Again at (r .next) (r .ink) (r .figure)
-  IfAgain at read.End = length s ≤ at
+  IfAgain at read.End = Unit {0}
   IfAgain at (read.Refused q o) = Unit {0}
 
   -- the values of a row, and that the figure they make is written by it
@@ -122,14 +123,11 @@ module _ (s : List ℕ) (bytes : Bytes s) where
   if-again at =
       let P : Found → Type 0 = λ f. IfAgain at (readOf f) in
       let no : (q : Refusal) (o : ℕ) → at ≤ o → o < length s → P (refused q o) = λ q o a b. tt in
-      found-has s at P no (λ e. e)
+      found-has s at P no (λ e. tt)
       (λ a b i. kind-has at (length s) P no (payloadAt s at) _ i _ (each-as table (λ row W e m l. row-made at row W a b e m) (written-by at)))
 
   pub record-again : (at : ℕ) (r : Record) → read.Record r ≡ readAt s at → Again at (r .next) (r .ink) (r .figure)
   record-again at r e = subst (IfAgain at) (sym e) (if-again at)
-
-  pub end-again : (at : ℕ) → read.End ≡ readAt s at → length s ≤ at
-  end-again at e = subst (IfAgain at) (sym e) (if-again at)
 
   -- an accepted file from an offset on: its records written again are its bytes, and none is refused for its fields
   abbrev Rewritten : ℕ → List Record → Type 0
@@ -148,7 +146,7 @@ module _ (s : List ℕ) (bytes : Bytes s) where
       (ap (λ (b : List ℕ). recordBytes (r .ink) (r .figure) ++ b) (rest .0) ∙ a .1, (a .0, (p .sound, rest .1)))
   read-again at rs e onward read.End f =
       let none : rs ≡ [] = ap recordsOf (sym e ∙ from-end s at f) in
-      subst (Rewritten at) (sym none) (sym (drop-of-length-le s (end-again at f)), tt)
+      subst (Rewritten at) (sym none) (sym (drop-of-length-le s (at-file-end s at f)), tt)
   read-again at rs e onward (read.Refused q o) f = absurd (never-holds q o rs (sym (from-refusal s at q o f) ∙ e))
 
   from-again : (n at : ℕ) → length s - at < n → (rs : List Record) → readFrom s at ≡ holds rs → Rewritten at rs

@@ -1,4 +1,4 @@
--- Two replies of a read that meet one statement are equal: its telling is one-to-one.
+-- Two replies of a read, or of a rescue, that meet one statement are equal: its telling is one-to-one.
 use mathlib.Core.Path.{_≡_, refl, sym, ap, _∙_}
 use mathlib.Core.List.{List, [], _∷_}
 use mathlib.Core.Bool.{cond}
@@ -9,10 +9,13 @@ use Rattle.sheet.specs.Figure.{numberIn}
 use Rattle.sheet.proofs.Figures.{figureOf, figure-of}
 use Rattle.sheet.proofs.Unique.{refusal, refusal-number, number-not-0}
 use Rattle.record.specs.Reading.{toldRead}
+use Rattle.record.specs.Rescue.{toldRescue}
 use Rattle.sheet.specs.declared.Figure.{Figure}
 use Rattle.record.specs.declared.types.Record.{Record}
 use Rattle.record.specs.declared.types.Read.{Read}
 use Rattle.record.specs.declared.types.Read.the-variants as read
+use Rattle.record.specs.declared.types.Rescue.{Rescue}
+use Rattle.record.specs.declared.types.Rescue.the-variants as rescue
 
 -- the reply that an answer tells
 doneOf : List ℤ → Read
@@ -32,3 +35,15 @@ read-told (read.Refused q at) = simp (number-not-0 q, refusal-number q)
 -- two replies told alike are equal
 pub read-one : (r q : Read) → toldRead r ≡ toldRead q → r ≡ q
 read-one r q e = sym (read-told r) ∙ ap readTold e ∙ read-told q
+
+-- the same of a rescue
+rescueTold : Answer → Rescue
+rescueTold a = cond (isDone a) (rescue.Done (numberIn (a .values) 0) (numberIn (a .values) 1)) (rescue.Refused (refusal (a .number)))
+
+rescue-told : (r : Rescue) → rescueTold (toldRescue r) ≡ r
+unfolding rescueTold
+rescue-told (rescue.Done copied listed) = refl
+rescue-told (rescue.Refused q) = simp (number-not-0 q, refusal-number q)
+
+pub rescue-one : (r q : Rescue) → toldRescue r ≡ toldRescue q → r ≡ q
+rescue-one r q e = sym (rescue-told r) ∙ ap rescueTold e ∙ rescue-told q
