@@ -47,3 +47,13 @@ two-counted-one n m v w p q e =
 
     second : (n v p : ℕ) → n ≡ 0 → p ≡ numberIn (twoCounted n v p .values) 1
     second n v p z = rw z
+
+pub kept-both : (n m a b v w p q : ℕ) → twoCounted n v p ≡ twoCounted m w q → Keeps n a v → Keeps m a w → Keeps n b p → Keeps m b q
+    → (v ≡ w) × (p ≡ q)
+kept-both n m a b v w p q e hv hw hp hq = by (eqb n 0) refl
+  where
+    by : (t : Bool) → eqb n 0 ≡ t → (v ≡ w) × (p ≡ q)
+    by true z = two-counted-one n m v w p q e .1 (eqb-true n 0 z)
+    by false z =
+        let no : m ≡ 0 → ⊥ = λ o. eqb-false n 0 z (two-counted-one n m v w p q e .0 ∙ o) in
+        (hv (eqb-false n 0 z) ∙ sym (hw no), hp (eqb-false n 0 z) ∙ sym (hq no))

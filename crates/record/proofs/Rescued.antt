@@ -19,8 +19,7 @@ use Rattle.record.specs.File.{holds, also, readFrom, readAll}
 use Rattle.record.specs.Writing.{recordBytes, recordSize, putAt}
 use Rattle.record.specs.Again.{Bytes, Item, itemOf, recordAt, recordsFrom}
 use Rattle.record.specs.Rescue.{Part, sound, leftOut, leftTo, partsFrom, parts, between, soundOnes, copyOf, offsetsOf, numbersOf, Lent, rescueAnswer, rescued, Rescues}
-use Rattle.record.specs.Rescued as specs
-use Rattle.record.specs.Rescued.{Alike, Accepted, Among, Accounted}
+use Rattle.record.specs.Rescued.{Alike, Accepted, Among, Accounted, NothingLost}
 use Rattle.record.specs.declared.types.Record.{Record}
 use Rattle.record.specs.declared.types.Read.the-variants as read
 use Rattle.record.proofs.Again.{items-read}
@@ -221,9 +220,9 @@ copied-twice s bytes lent left again after n k r h g e =
       S .numbers ∙ ap (λ (b : List ℕ). putAt 0 b (again .numbers)) (w .2),
     )
 
-pub rescued-holds : specs.Rescued
+pub nothing-lost : NothingLost
 unfolding parts readAll
-rescued-holds = record {
+nothing-lost = record {
   accepted = accepted;
   whole = whole;
   sound = λ s e. sound-from s 0 e;

@@ -35,7 +35,7 @@ pub data Accounted (s : List ℕ) (i : ℕ) (ps : List Part) : Type 0 where
   listed : (k : ℕ) → k < length (offsetsOf ps) → getD (offsetsOf ps) k 0 ≤ i
       → i < leftTo s (getD (offsetsOf ps) k 0) (getD (numbersOf ps) k 0) → Accounted s i ps
 
-pub record Rescued : Type 0 where
+pub record NothingLost : Type 0 where
   -- What is copied is an accepted file, and its records are the file's that read well, in order, each byte for byte.
   pub accepted : (s : List ℕ) → Bytes s → Accepted s (copyOf s (parts s)) (parts s)
   -- A sound file is copied whole, with an empty list; and where the list is empty, the file is sound.
