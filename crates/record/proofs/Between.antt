@@ -22,7 +22,8 @@ module _ (s : List ℕ) (a : ℕ) where
     pub between-join : (c : ℕ) → b ≤ c → between s a b ++ between s b c ≡ between s a c
     between-join c g =
         let e : b - a + (c - b) ≡ c - a = omega arith in
-        ap (λ (r : List ℕ). between s a b ++ take (c - b) r) (sym past) ∙ sym (take-add (b - a) (c - b) (drop a s)) ∙ ap (λ (n : ℕ). take n (drop a s)) e
+        ap (λ (r : List ℕ). between s a b ++ take (c - b) r) (sym past) ∙ sym (take-add (b - a) (c - b) (drop a s))
+        ∙ ap (λ (n : ℕ). take n (drop a s)) e
 
     pub length-between : b ≤ length s → length (between s a b) ≡ b - a
     length-between g = length-take-le (b - a) (drop a s) (rw (length-drop a s) (omega arith))

@@ -1,6 +1,6 @@
 -- A program that refuses all, one that always replies the same, and one that writes nothing, break the statement of writing: of every figure
 -- within its limits, in a buffer with just the room for its record. And so those that copy nothing, or list nothing, break that of a rescue.
-use Prim.Native.Nat.{ℕ, zero, suc, _+_, _-_, _≤_, _<_}
+use Prim.Native.Nat.{ℕ, zero, suc, _+_, _-_, _<_}
 use mathlib.Core.Path.{_≡_, refl, sym, subst, ap, _∙_}
 use mathlib.Core.List.{List, [], _∷_}
 use mathlib.Core.Bool.{true, false}
@@ -100,7 +100,8 @@ module _ (s : List ℕ) where
   first-number (leftOut q from to ∷ ps) some e = eqb-false (number q) 0 (number-not-0 q) e
 
   -- and so of any file that is not sound
-  pub rescue-lists : (offsetsOf (parts s) ≡ [] → ⊥) → (a : Answer) → Rescues s (zeros (length s) (length s)) a (zeros (length s) (length s)) → ⊥
+  pub rescue-lists : (offsetsOf (parts s) ≡ [] → ⊥) → (a : Answer)
+      → Rescues s (zeros (length s) (length s)) a (zeros (length s) (length s)) → ⊥
   unfolding rescued
   rescue-lists some a h =
       let numbers = ap (λ (l : Lent). l .numbers) (left-as-lent a h) in

@@ -132,10 +132,14 @@ module _ (at n : ℕ) (P : Found → Type 0) (no : (r : Refusal) (o : ℕ) → a
 
 -- by the tests of a record's length: 8 before it is known to fit the bytes that are left, and no other refusal before that
 module _ (s : List ℕ) (at : ℕ) (P : Found → Type 0) where
-  pub found-cases : (length s ≤ at → P end) → (at < length s → P (refused Short at)) → (kindPlace at + wordAt s at ≤ length s → P (refused Kindless at))
-      → (payloadPlace at ≤ kindPlace at + wordAt s at → kindPlace at + wordAt s at ≤ length s → payloadPlace at + length (payloadAt s at) ≤ length s
-      → P (kindFound (wordAt s (kindPlace at)) (payloadAt s at) at (kindPlace at + wordAt s at)))
-      → P (foundAt s at)
+  -- a record whose length fits and leaves room for a kind
+  abbrev pub OfKind : Type 0
+  OfKind =
+      payloadPlace at ≤ kindPlace at + wordAt s at → kindPlace at + wordAt s at ≤ length s → payloadPlace at + length (payloadAt s at) ≤ length s
+      → P (kindFound (wordAt s (kindPlace at)) (payloadAt s at) at (kindPlace at + wordAt s at))
+
+  pub found-cases : (length s ≤ at → P end) → (at < length s → P (refused Short at))
+      → (kindPlace at + wordAt s at ≤ length s → P (refused Kindless at)) → OfKind → P (foundAt s at)
   unfolding foundAt
   found-cases h short kindless k =
       by-test P (leb (length s) at) _ _ (λ e. h (leb-true (length s) at e))
@@ -155,8 +159,5 @@ module _ (s : List ℕ) (at : ℕ) (P : Found → Type 0) where
       (λ g. short (omega arith)))
       (λ f. short (omega arith)))
 
-  pub found-has : ((r : Refusal) (o : ℕ) → at ≤ o → o < length s → P (refused r o)) → (length s ≤ at → P end)
-      → (payloadPlace at ≤ kindPlace at + wordAt s at → kindPlace at + wordAt s at ≤ length s → payloadPlace at + length (payloadAt s at) ≤ length s
-      → P (kindFound (wordAt s (kindPlace at)) (payloadAt s at) at (kindPlace at + wordAt s at)))
-      → P (foundAt s at)
+  pub found-has : ((r : Refusal) (o : ℕ) → at ≤ o → o < length s → P (refused r o)) → (length s ≤ at → P end) → OfKind → P (foundAt s at)
   found-has refuses h k = found-cases h (λ a. refuses Short at (omega arith) a) (λ a. refuses Kindless at (omega arith) (omega arith)) k

@@ -54,7 +54,8 @@ put-from s part m at h e =
     let all : take (length s - at) rest ≡ rest = take-all (length s - at) rest (omega arith) in
     let none : drop (length s - at) rest ≡ [] = drop-of-length-le rest {i = length s - at} (omega arith) in
     let mid : m ≡ part ++ drop (at + length part) s =
-    e ∙ ap₂ (λ (a b : List ℕ). a ++ drop (length part) b) (take-length part) all ∙ ap (λ (b : List ℕ). part ++ b) (drop-drop (length part) at s) in
+    e ∙ ap₂ (λ (a b : List ℕ). a ++ drop (length part) b) (take-length part) all
+    ∙ ap (λ (b : List ℕ). part ++ b) (drop-drop (length part) at s) in
     ap₂ (λ (a b : List ℕ). take at s ++ (a ++ b)) mid none
     ∙ ap (λ (b : List ℕ). take at s ++ b) (append-nil (part ++ drop (at + length part) s))
     ∙ sym (append-assoc (take at s) part (drop (at + length part) s))

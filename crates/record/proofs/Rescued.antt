@@ -6,8 +6,8 @@ use mathlib.Core.Bool.{Bool, true, false, cond, _&&_, true≢false}
 use native.Mathlib.Omega.{arith}
 use borrow.Author.Tests.{leb-true, leb-false}
 use lib.Dec.{leb}
-use lib.IntN.{ℤ, pos}
-use lib.ListN.{length, getD, take, drop, drop-of-length-le, length-drop, length-append}
+use lib.IntN.{pos}
+use lib.ListN.{length, take, drop, drop-of-length-le, length-drop, length-append}
 use lib.Seq.{take-at, drop-at}
 use Rattle.sheet.specs.Reply.{Answer, number, done, refuse, unless, isDone, valueOf, settled}
 use Rattle.sheet.specs.declared.Refusal.{Refusal}
@@ -17,7 +17,7 @@ use Rattle.sheet.proofs.Unique.{number-not-0, one-value}
 use Rattle.record.specs.Reading.{readAt}
 use Rattle.record.specs.File.{holds, also, readFrom, readAll}
 use Rattle.record.specs.Writing.{recordBytes, recordSize, putAt}
-use Rattle.record.specs.Again.{Bytes, Item, itemOf, recordAt, recordsFrom}
+use Rattle.record.specs.Again.{Bytes, itemOf, recordAt, recordsFrom}
 use Rattle.record.specs.Rescue.{Part, sound, leftOut, leftTo, partsFrom, parts, between, soundOnes, copyOf, offsetsOf, numbersOf, Lent, rescueAnswer, rescued, Rescues}
 use Rattle.record.specs.Rescued.{Alike, Accepted, Among, Accounted, NothingLost}
 use Rattle.record.specs.declared.types.Record.{Record}
@@ -112,7 +112,9 @@ module _ (s : List ℕ) where
         record {
           ink = a .0;
           limits = p .sound;
-          has = ap (λ (o : ℕ). between s o (r .next)) (p .here) ∙ ap (take (r .next - at)) (sym (a .1)) ∙ take-at b (drop (r .next) s) (r .next - at) n;
+          has =
+              ap (λ (o : ℕ). between s o (r .next)) (p .here) ∙ ap (take (r .next - at)) (sym (a .1))
+              ∙ take-at b (drop (r .next) s) (r .next - at) n;
         }
 
     abbrev AllOwn : List Record → Type 0
@@ -144,7 +146,8 @@ module _ (s : List ℕ) where
         let size = record-size (r .ink) (r .figure) in
         let next = n + recordSize (r .figure) in
         let here : between t n next ≡ b =
-        ap (λ (t : List ℕ). between t n next) e ∙ ap (take (next - n)) (drop-at q (b ++ rest) n h) ∙ take-at b rest (next - n) (omega (arith, size)) in
+        ap (λ (t : List ℕ). between t n next) e ∙ ap (take (next - n)) (drop-at q (b ++ rest) n h)
+        ∙ take-at b rest (next - n) (omega (arith, size)) in
         Alike.next r (recordAt n (itemOf r)) rs (recordsFrom next (map itemOf rs)) refl (l .0 .has ∙ sym here)
         (alike t (q ++ b) next rs (e ∙ sym (append-assoc q b rest)) (omega (arith, length-append q b, size)) (l .1))
 

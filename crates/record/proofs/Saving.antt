@@ -13,7 +13,7 @@ use Rattle.sheet.specs.declared.Refusal.the-variants.{Room, Full}
 use Rattle.sheet.proofs.Unique.{number-not-0}
 use Rattle.record.specs.Reading.{readAt}
 use Rattle.record.specs.Writing.{putAt}
-use Rattle.record.specs.Rescue.{Part, sound, leftOut, leftTo, partsFrom, parts, between, copyOf, offsetsOf, numbersOf, Lent, lentOf, rescueAnswer, rescued, Rescues}
+use Rattle.record.specs.Rescue.{leftTo, partsFrom, parts, between, copyOf, offsetsOf, numbersOf, Lent, lentOf, rescueAnswer, rescued, Rescues}
 use Rattle.record.specs.Inner.{Follow, Ends, fileEnds, refused, Ran, endNumber, HasRoom}
 use Rattle.record.specs.declared.types.Record.{Record}
 use Rattle.record.specs.declared.types.Read.{Read}
@@ -101,7 +101,8 @@ module _ {all lent now rest : List ℕ} {count : ℕ} (p : Put all lent now rest
   pub put-length : length now ≡ length lent
   put-length = ap length (p .is) ∙ length-sets lent 0 (p .front)
 
-  pub put-more : (part after t : List ℕ) (m : ℕ) → rest ≡ part ++ after → t ≡ sets now count part → m ≡ count + length part → Put all lent t after m
+  pub put-more : (part after t : List ℕ) (m : ℕ) → rest ≡ part ++ after → t ≡ sets now count part → m ≡ count + length part
+      → Put all lent t after m
   put-more part after t m e f g =
       let zero : 0 + length (p .front) ≡ count = omega (arith, p .counts) in
       record {
@@ -152,12 +153,14 @@ kept s l t at copied listed end copy h f e =
     }
 
 -- .. and what is refused where they end is listed
-pub told : (s : List ℕ) (l t : Lent) (at copied listed n next : ℕ) → Saving s l t at copied listed → Ends s at n → (n ≡ 0 → ⊥) → next ≡ leftTo s at n
+pub told : (s : List ℕ) (l t : Lent) (at copied listed n next : ℕ) → Saving s l t at copied listed → Ends s at n → (n ≡ 0 → ⊥)
+    → next ≡ leftTo s at n
     → Saving s l (lentOf (t .copy) (set (t .offsets) listed at) (set (t .numbers) listed n)) next copied (listed + 1)
 told s l t at copied listed n next h e z to =
     let k = left-out s at n e z in
     let m = leaves s at n (k .here) in
-    subst (λ (next : ℕ). Saving s l (lentOf (t .copy) (set (t .offsets) listed at) (set (t .numbers) listed n)) next copied (listed + 1)) (sym to)
+    let after = lentOf (t .copy) (set (t .offsets) listed at) (set (t .numbers) listed n) in
+    subst (λ (next : ℕ). Saving s l after next copied (listed + 1)) (sym to)
     (record {
       copy = subst (λ (rest : List ℕ). Put (copyOf s (parts s)) (l .copy) (t .copy) rest copied) (k .copies) (h .copy);
       offsets = put-more (h .offsets) (at ∷ []) _ _ _ (k .offsets) refl refl;

@@ -1,5 +1,5 @@
 -- `pistonwool::rescuing::tell_rescue` meets its contract.
-use mathlib.Core.Path.{refl, sym, ap, _∙_}
+use mathlib.Core.Path.{refl, ap, _∙_}
 use borrow.Author.Needs.{needs}
 use Rattle.record.specs.Rescue.{toldRescue}
 use Rattle.pistonwool.proofs.Told.{refused-told}

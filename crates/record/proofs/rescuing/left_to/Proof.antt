@@ -12,7 +12,7 @@ use Rattle.record.proofs.rescuing.left_to.Statement.{statement}
 use Rattle.record.proofs.rescuing.left_to.Tie as tie
 
 -- what is left out there, where its length fits the bytes left
-fits : (c : tie.Else1) → c .before .before .args .at + 2 + wordAt (now (c .before .before .args .file)) (c .before .before .args .at) ≤ length (now (c .before .before .args .file))
+fits : (c : tie.Else1) → let a = c .before .before .args in a .at + 2 + wordAt (now (a .file)) (a .at) ≤ length (now (a .file))
 fits c =
     let start = c .before .before in
     left-out _ _ _ (start .pre .0) (start .pre .1) .here .whole (c .if1 .left)

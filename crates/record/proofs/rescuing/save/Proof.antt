@@ -1,11 +1,13 @@
 -- `record::rescuing::save` meets its contract.
-use Prim.Native.Nat.{ℕ, _+_, _-_, _≤_, _<_}
-use mathlib.Core.Path.{_≡_, sym, subst, ap}
+use Prim.Native.Nat.{ℕ, _+_, _*_, _-_, _≤_, _<_}
+use mathlib.Core.List.{List}
 use native.Mathlib.Omega.{arith}
 use borrow.Author.Needs.{needs}
 use denote.Ref.{now}
 use lib.ListN.{length}
-use Rattle.record.specs.Rescue.{lentOf}
+use mir.Syntax.{w64}
+use mir.Val.{Fits}
+use Rattle.record.specs.Rescue.{between, lentOf}
 use Rattle.record.proofs.Between.{length-between}
 use Rattle.record.proofs.Parts.{leaves}
 use Rattle.record.proofs.Saving.{Carried, carried, Left, left-out, file-ends, put-length, Saving, begins, kept, told, saved}
@@ -25,9 +27,18 @@ loop-holds c = begins _ _
 sound-run-requires : tie.Need-sound-run-requires Inv-loop μ-loop
 sound-run-requires c κs = c .before .loop .inv .inside
 
--- the records that follow each other from where the turn begins
-run : (c : tie.After-sound-run Inv-loop μ-loop)
-    → Carried (now (c .before .before .before .before .before .before .before .args .file)) (c .before .before .loop .at) (c .sound-run .result .end)
+-- a turn, and one that lists: where its records were read
+abbrev Turn : Type 0
+Turn = tie.After-sound-run Inv-loop μ-loop
+
+abbrev turn : tie.Then1 Inv-loop μ-loop → Turn
+turn c = c .before .before .before .before .before .before
+
+abbrev file : Turn → List ℕ
+file c = now (c .before .before .before .before .before .before .before .args .file)
+
+-- the records that follow each other from where it begins
+run : (c : Turn) → Carried (file c) (c .before .before .loop .at) (c .sound-run .result .end)
 run c = carried _ _ (c .before .before .loop .inv .inside) _ (c .sound-run .ensures .follow)
 
 sub-put : tie.Need-sub-put Inv-loop μ-loop
@@ -39,39 +50,48 @@ part-put-start c = run (c .before) .on
 part-put-end : tie.Need-part-put-end Inv-loop μ-loop
 part-put-end c = run (c .before) .inside
 
+-- the copy has room for them
+fits : (c : Turn) → let l = c .before .before .loop in l .copied + length (between (file c) (l .at) (c .sound-run .result .end)) ≤ length (l .copy)
+fits c =
+    let k = run c in
+    let inv = c .before .before .loop .inv in
+    let start = c .before .before .before .before .before .before .before in
+    omega (arith, length-between (file c) _ _ (k .on) (k .inside), k .on, k .inside, inv .few, put-length (inv .copy), start .pre .copy)
+
 put-requires : tie.Need-put-requires Inv-loop μ-loop
-put-requires c κs =
-    let k = run (c .before .before) in
-    let loop = c .before .before .before .before .loop in
-    let start = c .before .before .before .before .before .before .before .before .before in
-    omega (arith, length-between (now (start .args .file)) (loop .at) _ (k .on) (k .inside), k .on, k .inside, loop .inv .few, put-length (loop .inv .copy), start .pre .copy)
+put-requires c κs = fits (c .before .before)
 
 sub-copied : tie.Need-sub-copied Inv-loop μ-loop
 sub-copied c = run (c .before .before .before .before .before) .on
 
 add-copied : tie.Need-add-copied Inv-loop μ-loop
 add-copied c =
-    let k = run (c .before .before .before .before .before) in
-    omega (arith, k .on, k .inside, c .before .before .before .before .before .before .before .loop .inv .few)
+    let t : Turn = c .before .before .before .before .before in
+    omega (arith, run t .on, run t .inside, t .before .before .loop .inv .few)
 
 -- what is left out where they end
-left : (c : tie.Then1 Inv-loop μ-loop)
-    → Left (now (c .before .before .before .before .before .before .before .before .before .before .before .before .before .args .file)) (c .before .before .before .before .before .before .sound-run .result .end) (c .before .before .before .before .before .before .sound-run .result .number)
-left c = left-out _ _ _ (c .before .before .before .before .before .before .sound-run .ensures .ends) (c .if1 .taken)
+left : (c : tie.Then1 Inv-loop μ-loop) → Left (file (turn c)) (turn c .sound-run .result .end) (turn c .sound-run .result .number)
+left c = left-out _ _ _ (turn c .sound-run .ensures .ends) (c .if1 .taken)
 
 -- each list has a place for it
-places : (c : tie.Then1 Inv-loop μ-loop)
-    → (c .before .before .before .before .before .before .before .before .loop .listed < length (c .before .before .before .before .before .before .before .before .loop .offsets)) × (c .before .before .before .before .before .before .before .before .loop .listed < length (c .before .before .before .before .before .before .before .before .loop .numbers))
+places : (c : tie.Then1 Inv-loop μ-loop) → let l = turn c .before .before .loop in (l .listed < length (l .offsets)) × (l .listed < length (l .numbers))
 places c =
-    let k = run (c .before .before .before .before .before .before) in
-    let loop = c .before .before .before .before .before .before .before .before .loop in
-    let start = c .before .before .before .before .before .before .before .before .before .before .before .before .before in (
-      omega (arith, k .on, loop .inv .lines, left c .here .here, put-length (loop .inv .offsets), start .pre .offsets),
-      omega (arith, k .on, loop .inv .lines, left c .here .here, put-length (loop .inv .numbers), start .pre .numbers),
+    let t = turn c in
+    let inv = t .before .before .loop .inv in
+    let start = t .before .before .before .before .before .before .before in (
+      omega (arith, run t .on, inv .lines, left c .here .here, put-length (inv .offsets), start .pre .offsets),
+      omega (arith, run t .on, inv .lines, left c .here .here, put-length (inv .numbers), start .pre .numbers),
     )
 
+-- whose address, too, fits the machine's words
+addressed : (c : tie.Then1 Inv-loop μ-loop) → Fits w64 (turn c .before .before .loop .listed * 8)
+addressed c =
+    let t = turn c in
+    let start = t .before .before .before .before .before .before .before in
+    omega (arith, places c, put-length (t .before .before .loop .inv .offsets), start .good)
+
 mul-offsets : tie.Need-mul-offsets Inv-loop μ-loop
-mul-offsets c = omega (arith, places c, put-length (c .before .before .before .before .before .before .before .before .loop .inv .offsets), c .before .before .before .before .before .before .before .before .before .before .before .before .before .good)
+mul-offsets c = addressed c
 
 slice-write-offsets : tie.Need-slice-write-offsets Inv-loop μ-loop
 slice-write-offsets c = places c .0
@@ -80,7 +100,7 @@ cast-numbers : tie.Need-cast-numbers Inv-loop μ-loop
 cast-numbers c = search needs
 
 mul-numbers : tie.Need-mul-numbers Inv-loop μ-loop
-mul-numbers c = omega (arith, places c, put-length (c .before .before .before .before .before .before .before .before .loop .inv .numbers), c .before .before .before .before .before .before .before .before .before .before .before .before .before .good)
+mul-numbers c = addressed c
 
 slice-write-numbers : tie.Need-slice-write-numbers Inv-loop μ-loop
 slice-write-numbers c = places c .1
@@ -89,30 +109,32 @@ add-listed : tie.Need-add-listed Inv-loop μ-loop
 add-listed c = omega (arith, places c)
 
 left-to-requires : tie.Need-left-to-requires Inv-loop μ-loop
-left-to-requires c κs = (c .before .before .before .before .before .before .sound-run .ensures .ends, c .if1 .taken)
+left-to-requires c κs = (turn c .sound-run .ensures .ends, c .if1 .taken)
 
 loop-less : tie.Need-loop-less Inv-loop μ-loop
 loop-less c =
-    let k = run (c .before .before .before .before .before .before .before) in
+    let t = turn (c .before) in
     let m = leaves _ _ _ (left (c .before) .here) in
-    omega (arith, k .on, m .on, m .inside, c .left-to .ensures, c .before .before .before .before .before .before .before .before .loop-test .taken)
+    omega (arith, run t .on, m .on, m .inside, c .left-to .ensures, t .before .loop-test .taken)
 
 loop-again : tie.Need-loop-again Inv-loop μ-loop
 loop-again c =
-    let loop = c .before .before .before .before .before .before .before .before .before .loop in
-    let run = c .before .before .before .before .before .before .before .sound-run in
-    let now = kept _ _ _ (loop .at) (loop .copied) (loop .listed) _ _ (loop .inv) (run .ensures .follow) (c .before .before .before .before .put .ensures) in
-    told _ _ _ _ _ (loop .listed) _ _ now (run .ensures .ends) (c .before .if1 .taken) (c .left-to .ensures)
+    let t = turn (c .before) in
+    let l = t .before .before .loop in
+    let put = c .before .before .before .before .put .ensures in
+    let copied = kept _ _ _ (l .at) (l .copied) (l .listed) _ _ (l .inv) (t .sound-run .ensures .follow) put in
+    told _ _ _ _ _ (l .listed) _ _ copied (t .sound-run .ensures .ends) (c .before .if1 .taken) (c .left-to .ensures)
 
 loop-less-2 : tie.Need-loop-less-2 Inv-loop μ-loop
 loop-less-2 c =
-    let k = run (c .before .before .before .before .before .before) in
-    omega (arith, file-ends _ _ _ (c .before .before .before .before .before .before .sound-run .ensures .ends) (c .if1 .left), c .before .before .before .before .before .before .before .loop-test .taken)
+    let t : Turn = c .before .before .before .before .before .before in
+    omega (arith, run t .on, file-ends _ _ _ (t .sound-run .ensures .ends) (c .if1 .left), t .before .loop-test .taken)
 
 loop-again-2 : tie.Need-loop-again-2 Inv-loop μ-loop
 loop-again-2 c =
-    let loop = c .before .before .before .before .before .before .before .before .loop in
-    kept _ _ _ (loop .at) (loop .copied) (loop .listed) _ _ (loop .inv) (c .before .before .before .before .before .before .sound-run .ensures .follow) (c .before .before .before .put .ensures)
+    let t : Turn = c .before .before .before .before .before .before in
+    let l = t .before .before .loop in
+    kept _ _ _ (l .at) (l .copied) (l .listed) _ _ (l .inv) (t .sound-run .ensures .follow) (c .before .before .before .put .ensures)
 
 same-length : tie.Need-same-length Inv-loop μ-loop
 same-length c = put-length (c .before .loop .inv .copy)

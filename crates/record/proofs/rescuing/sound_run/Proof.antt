@@ -1,5 +1,5 @@
 -- `record::rescuing::sound_run` meets its contract.
-use Prim.Native.Nat.{_-_, _≤_}
+use Prim.Native.Nat.{_-_}
 use mathlib.Core.Path.{_≡_, sym, subst, _∙_}
 use native.Mathlib.Omega.{arith}
 use denote.Ref.{now}
@@ -39,7 +39,7 @@ returns c =
 
 -- the record that was read
 is-record : (c : tie.After-known-told Inv-loop μ-loop)
-    → read.Record (c .before .answer .given .0 .0) ≡ readAt (now (c .before .before .before .before .before .before .args .file)) (c .before .before .before .before .loop .end)
+    → let l = c .before .before .before .before in read.Record (c .before .answer .given .0 .0) ≡ readAt (now (l .before .before .args .file)) (l .loop .end)
 is-record c = sym (c .before .answer .given .1) ∙ c .before .before .before .read .ensures .1
 
 loop-less : tie.Need-loop-less Inv-loop μ-loop
