@@ -17,6 +17,7 @@ struct Run {
     number: u32,
 }
 
+// The number of what ends a run.
 fn end_number(answer: Read) -> u32
     ensures { λ r. ⌜ r ≡ endNumber answer ⌝ }
 {
@@ -29,7 +30,6 @@ fn end_number(answer: Read) -> u32
 
 // Reads from an offset on, as long as records read well.
 fn sound_run(file: &[u8], from: usize) -> Run
-    requires { ⌜ from ≤ length (now file) ⌝ }
     ensures { λ r. ⌜ Ran (now (file .entry)) from (r .end) (r .number) ⌝ }
 {
     let mut end = from;

@@ -25,7 +25,7 @@ loop-holds : tie.Need-loop-holds Inv-loop μ-loop
 loop-holds c = begins _ _
 
 sound-run-requires : tie.Need-sound-run-requires Inv-loop μ-loop
-sound-run-requires c κs = c .before .loop .inv .inside
+sound-run-requires c κs = tt
 
 -- a turn, and one that lists: where its records were read
 abbrev Turn : Type 0
