@@ -13,7 +13,9 @@ enum { BESIDE = 3 };
 #else
 enum { BESIDE = 2 };
 #endif
-enum { ROUNDS = 15, MOST = 20000, CELLS = 300000, RECORDS = 200, WRITTEN = 10000, FAR = 500, COPIED = 1 << 26 };
+enum { ROUNDS = 15, MOST = 20000, CELLS = 300000, RECORDS = 200, FAR = 500, COPIED = 1 << 26 };
+/* so many records that no processor has learnt their order by the last round */
+enum { WRITTEN = 100000 };
 
 static size_t length(const struct sheet *s) {
     return (size_t)s->pitch * s->side;
@@ -158,7 +160,7 @@ void row(const char *name, const char *unit, struct sheet *s, struct way *ways, 
     fflush(stdout);
 }
 
-static struct figure figures[MOST];
+static struct figure figures[WRITTEN];
 
 /* stops where the library and C by rows do not mark the same cells */
 static void same_rings(struct sheet *s, const struct figure *rings, size_t count) {
