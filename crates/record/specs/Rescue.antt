@@ -23,7 +23,7 @@ pub data Part : Type 0 where
   sound : Record → Part
   leftOut : Refusal → ℕ → ℕ → Part
 
--- where it ends, given its number: as its length says; but at 8 nobody can tell where the next record begins, and all the rest is left out
+-- where what is left out at an offset ends, given its number: as its length says; but at 8, where nobody can tell, it is all the rest
 abbrev pub leftTo : List ℕ → ℕ → ℕ → ℕ
 leftTo s at n = cond (eqb n (number Short)) (length s) (kindPlace at + wordAt s at)
 
