@@ -2,16 +2,17 @@
 use Prim.Native.Nat.{ℕ, suc, _+_, _-_, _≤_, _<_}
 use mathlib.Core.Path.{_≡_, refl, sym, subst, ap, ap₂, _∙_}
 use mathlib.Core.List.{List, [], _∷_, _++_, append-assoc, map}
-use mathlib.Core.Bool.{Bool, true, false, cond, _&&_, true≢false}
+use mathlib.Core.Bool.{Bool, true, false, _&&_, true≢false}
+use mathlib.Core.Logic.{_⊎_, inl, inr}
 use native.Mathlib.Omega.{arith}
-use borrow.Author.Tests.{leb-true, leb-false}
 use lib.Dec.{leb}
 use lib.IntN.{pos}
 use lib.ListN.{length, take, drop, drop-of-length-le, length-drop, length-append}
 use lib.Seq.{take-at, drop-at}
-use Rattle.sheet.specs.Reply.{Answer, number, done, refuse, unless, isDone, valueOf, settled}
+use Rattle.sheet.specs.Reply.{Answer, number, done, unless, isDone, valueOf}
 use Rattle.sheet.specs.declared.Refusal.{Refusal}
 use Rattle.sheet.specs.declared.Refusal.the-variants.{Room, Full}
+use Rattle.laws.proofs.Products.{lt-or-ge}
 use Rattle.sheet.proofs.Figures.{Sound}
 use Rattle.sheet.proofs.Unique.{number-not-0, one-value}
 use Rattle.record.specs.Reading.{readAt}
@@ -73,27 +74,23 @@ module _ (s : List ℕ) where
   abbrev AllAccounted : ℕ → List Part → Type 0
   AllAccounted at ps = (i : ℕ) → at ≤ i → i < length s → Accounted s i ps
 
-  -- a byte from an offset on is in what ends at another, or from that on
-  either : (i next : ℕ) (A : Type 0) → (i < next → A) → (next ≤ i → A) → A
-  either i next A below above = by (leb next i) refl
-    where
-      by : (t : Bool) → leb next i ≡ t → A
-      by true e = above (leb-true next i e)
-      by false e = below (leb-false next i e)
-
   accounted-from : (at : ℕ) → AllAccounted at (partsFrom s at)
   accounted-from =
       walk-has s AllAccounted (λ at h i a b. absurd (omega arith))
-      (λ at r ps e rest i a b.
-      let p = stands s at r e in
-      either i (r .next) (Accounted s i (sound r ∷ ps))
-      (λ c. Accounted.copied r (Among.first (soundOnes ps)) (omega (arith, p .here)) c)
-      (λ c. before-sound r i ps (rest i c b)))
-      (λ at q o ps e rest i a b.
-      let to = leftTo s at (number q) in
-      either i to (Accounted s i (leftOut q at to ∷ ps))
-      (λ c. Accounted.listed 0 (omega arith) a c)
-      (λ c. before-left q at to i ps (rest i c b)))
+      (λ at r ps e rest i a b. in-sound at r ps e rest i a b (lt-or-ge i (r .next)))
+      (λ at q o ps e rest i a b. in-left at q ps rest i a b (lt-or-ge i (leftTo s at (number q))))
+    where
+      -- the byte is in the part, or from where it ends on
+      in-sound : (at : ℕ) (r : Record) (ps : List Part) → read.Record r ≡ readAt s at → AllAccounted (r .next) ps
+          → (i : ℕ) → at ≤ i → i < length s → (i < r .next) ⊎ (r .next ≤ i) → Accounted s i (sound r ∷ ps)
+      in-sound at r ps e rest i a b (inl c) =
+          Accounted.copied r (Among.first (soundOnes ps)) (omega (arith, stands s at r e .here)) c
+      in-sound at r ps e rest i a b (inr c) = before-sound r i ps (rest i c b)
+
+      in-left : (at : ℕ) (q : Refusal) (ps : List Part) → AllAccounted (leftTo s at (number q)) ps → (i : ℕ) → at ≤ i → i < length s
+          → (i < leftTo s at (number q)) ⊎ (leftTo s at (number q) ≤ i) → Accounted s i (leftOut q at (leftTo s at (number q)) ∷ ps)
+      in-left at q ps rest i a b (inl c) = Accounted.listed 0 (omega arith) a c
+      in-left at q ps rest i a b (inr c) = before-left q at _ i ps (rest i c b)
 
   module _ (bytes : Bytes s) where
     -- a record that reads well has the bytes of its ink and figure
@@ -163,48 +160,37 @@ module _ (s : List ℕ) where
           alike = alike _ [] 0 rs copy refl l;
         }
 
--- What comes of a rescue: copy and lists where there is room, or nothing.
-data Outcome (s : List ℕ) (l : Lent) : (r : Answer) (t : Lent) → Type 0 where
-  saved : Outcome s l (done (pos (length (copyOf s (parts s))) ∷ pos (length (offsetsOf (parts s))) ∷ [])) (rescued s l)
-  kept : (q : Refusal) → Outcome s l (refuse q) l
+-- an answer that is done has passed its test
+passed : (t : Bool) (q : Refusal) (a : Answer) → isDone (unless t q a) ≡ true → unless t q a ≡ a
+passed true q a e = refl
+passed false q a e = absurd (true≢false (sym e ∙ number-not-0 q))
 
-module _ (s : List ℕ) (l : Lent) where
-  abbrev After : Answer → Type 0
-  After a = Outcome s l a (settled a (rescued s l) l)
-
-  refuses : (q : Refusal) → After (refuse q)
-  refuses q = subst (λ (t : Bool). Outcome s l (refuse q) (cond t (rescued s l) l)) (sym (number-not-0 q)) (kept q)
-
-  by-test : (t : Bool) (q : Refusal) (a : Answer) → After a → After (unless t q a)
-  by-test true q a h = h
-  by-test false q a h = refuses q
-
-  outcome : (r : Answer) (t : Lent) → Rescues s l r t → Outcome s l r t
-  unfolding rescueAnswer
-  outcome r t w =
-      let answered : After (rescueAnswer s l) =
-      by-test (leb (length s) (length (l .copy))) Full _
-      (by-test (leb (length s) (length (l .offsets)) && leb (length s) (length (l .numbers))) Room _ saved) in
-      let left = settled (rescueAnswer s l) (rescued s l) l in
-      subst (Outcome s l r) (sym (w .leaves)) (subst (λ (a : Answer). Outcome s l a left) (sym (w .tells)) answered)
-
--- of one that is done
+-- what a rescue that is done tells and leaves
 record Saved (s : List ℕ) (l : Lent) (r : Answer) (t : Lent) : Type 0 where
   tells : r ≡ done (pos (length (copyOf s (parts s))) ∷ pos (length (offsetsOf (parts s))) ∷ [])
   copy : t .copy ≡ putAt 0 (copyOf s (parts s)) (l .copy)
   offsets : t .offsets ≡ putAt 0 (offsetsOf (parts s)) (l .offsets)
   numbers : t .numbers ≡ putAt 0 (numbersOf (parts s)) (l .numbers)
 
-is-saved : (s : List ℕ) (l : Lent) (r : Answer) (t : Lent) → isDone r ≡ true → Outcome s l r t → Saved s l r t
-unfolding rescued
-is-saved s l _ _ e Outcome.saved = record { tells = refl; copy = refl; offsets = refl; numbers = refl }
-is-saved s l _ _ e (Outcome.kept q) = absurd (true≢false (sym e ∙ number-not-0 q))
+saved : (s : List ℕ) (l : Lent) (r : Answer) (t : Lent) → isDone r ≡ true → Rescues s l r t → Saved s l r t
+unfolding rescueAnswer rescued
+saved s l r t e h =
+    let d : isDone (rescueAnswer s l) ≡ true = ap isDone (sym (h .tells)) ∙ e in
+    let room = passed (leb (length s) (length (l .copy))) Full _ d in
+    let places = leb (length s) (length (l .offsets)) && leb (length s) (length (l .numbers)) in
+    let left : t ≡ rescued s l = h .leaves ∙ simp d in
+    record {
+      tells = h .tells ∙ room ∙ passed places Room _ (ap isDone (sym room) ∙ d);
+      copy = ap (λ (t : Lent). t .copy) left;
+      offsets = ap (λ (t : Lent). t .offsets) left;
+      numbers = ap (λ (t : Lent). t .numbers) left;
+    }
 
 -- the first bytes of a done rescue are the copy
 saved-copy : (s : List ℕ) (l : Lent) (n k : ℕ) (t : Lent) → Rescues s l (done (pos n ∷ pos k ∷ [])) t
     → (n ≡ length (copyOf s (parts s))) × (take n (t .copy) ≡ copyOf s (parts s))
 saved-copy s l n k t h =
-    let S = is-saved s l _ t refl (outcome s l _ t h) in
+    let S = saved s l _ t refl h in
     let e : n ≡ length (copyOf s (parts s)) = ap valueOf (S .tells) in
     (e, ap₂ take e (S .copy) ∙ take-at (copyOf s (parts s)) _ _ refl)
 
@@ -214,7 +200,7 @@ copied-twice : (s : List ℕ) → Bytes s → (lent left again after : Lent) (n 
 copied-twice s bytes lent left again after n k r h g e =
     let c = copyOf s (parts s) in
     let first = saved-copy s lent n k left h in
-    let S = is-saved c again r after e (outcome c again r after (subst (λ (b : List ℕ). Rescues b again r after) (first .1) g)) in
+    let S = saved c again r after e (subst (λ (b : List ℕ). Rescues b again r after) (first .1) g) in
     let w = whole c _ (accepted s bytes .reads) in
     let copy : after .copy ≡ putAt 0 c (again .copy) = S .copy ∙ ap (λ (b : List ℕ). putAt 0 b (again .copy)) (w .0) in (
       S .tells ∙ ap₂ (λ (a b : ℕ). done (pos a ∷ pos b ∷ [])) (ap length (w .0) ∙ sym (first .0)) (ap length (w .1)),
