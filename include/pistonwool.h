@@ -7,6 +7,10 @@
  * Drawing sets each of a figure's cells that lies on the sheet to the ink and leaves every other byte as it was. Filling a
  * territory (pw_fill) sets the cells that a boundary drawn so shuts in.
  *
+ * A drawing tells what to repaint: box is then x, y, width and height of the smallest rectangle that holds the cells it set,
+ * also those that had the ink already; all four are 0 where the figure has no cell on the sheet. Of a curve it is the rectangle
+ * over all its lines, of a file that over all its records (examples/repaint.c).
+ *
  * A window, a part of a larger sheet of this pitch that begins at (x, y) and is w by h, is a sheet too (examples/window.c):
  *     pw_line(sheet + (size_t)y * pitch + x, (size_t)pitch * h, w, h, pitch, ink, ...)
  * Its length counts its last row whole, so one that ends in the larger sheet's last row can be lent only if x is 0, or if x
@@ -28,7 +32,7 @@
 #include <stdint.h>
 
 /* the version of this header and of the library installed with it */
-#define PW_VERSION "0.3.3"
+#define PW_VERSION "0.4.0"
 
 #if SIZE_MAX != UINT64_MAX
 #error "Pistonwool is for 64-bit machines only"
@@ -78,23 +82,23 @@ enum pw_reply {
 
 /* Draws the line from (x0, y0) to (x1, y1). *cells is then its number of cells on the sheet. */
 uint32_t pw_line(uint8_t *sheet, size_t len, uint32_t width, uint32_t height, uint32_t pitch, uint8_t ink,
-                 int32_t x0, int32_t y0, int32_t x1, int32_t y1, uint32_t *cells);
+                 int32_t x0, int32_t y0, int32_t x1, int32_t y1, uint32_t *cells, uint32_t box[4]);
 
 /* Draws the ellipse of semi-axes a along x and b along y about (x, y): the cells nearest to it in their column or in their row.
  * However flat it is, it has no holes: neighbours on it touch by a side or a corner all round. With both 0 it is one cell.
  * To draw a circle of radius r, give r for a and for b. */
 uint32_t pw_ellipse(uint8_t *sheet, size_t len, uint32_t width, uint32_t height, uint32_t pitch, uint8_t ink,
-                    int32_t x, int32_t y, uint32_t a, uint32_t b);
+                    int32_t x, int32_t y, uint32_t a, uint32_t b, uint32_t box[4]);
 
 /* Draws the quadratic Bezier curve with these control points, split into 2^s pieces. Its joined points need no limits of
  * their own: PW_COORDINATE speaks of the control points. */
 uint32_t pw_curve(uint8_t *sheet, size_t len, uint32_t width, uint32_t height, uint32_t pitch, uint8_t ink,
-                  int32_t x0, int32_t y0, int32_t x1, int32_t y1, int32_t x2, int32_t y2, uint32_t s);
+                  int32_t x0, int32_t y0, int32_t x1, int32_t y1, int32_t x2, int32_t y2, uint32_t s, uint32_t box[4]);
 
 /* Draws the cubic Bezier curve with these control points, likewise. */
 uint32_t pw_cubic(uint8_t *sheet, size_t len, uint32_t width, uint32_t height, uint32_t pitch, uint8_t ink,
                   int32_t x0, int32_t y0, int32_t x1, int32_t y1, int32_t x2, int32_t y2, int32_t x3, int32_t y3,
-                  uint32_t s);
+                  uint32_t s, uint32_t box[4]);
 
 /* Fills a territory: sets to the territory ink exactly the cells that can be reached from the start (x, y) by steps to a side
  * neighbour on the sheet without entering a cell of the boundary ink, judged on the sheet as it is lent. *cells is then how
@@ -131,7 +135,7 @@ uint32_t pw_pen_next(struct pw_pen *pen, int32_t *x, int32_t *y);
  * offending field's first byte: the length for 8, 10 and 16, the kind for 9, the first bad field for 2, 3 and 4; 0 for 1
  * and 15, which speak of the sheet. A file that is refused draws nothing. */
 uint32_t pw_file(uint8_t *sheet, size_t len, uint32_t width, uint32_t height, uint32_t pitch,
-                 const uint8_t *file, size_t n, uint64_t *value);
+                 const uint8_t *file, size_t n, uint64_t *value, uint32_t box[4]);
 
 /* Writing a record file: each call appends one record, an ink and a figure, to a lent buffer of which *filled bytes are
  * filled, and *filled is then that many more. Every other byte of the buffer stays as it was. Written so from *filled 0 on,
@@ -187,11 +191,11 @@ static inline int pw_floats_sound(void) {
 /* Draws the line from (x0, y0) to (x1, y1). *cells is then its number of cells on the sheet. */
 uint32_t pw_line_metres(uint8_t *sheet, size_t len, uint32_t width, uint32_t height, uint32_t pitch, uint8_t ink,
                         double east, double north, double size,
-                        double x0, double y0, double x1, double y1, uint32_t *cells);
+                        double x0, double y0, double x1, double y1, uint32_t *cells, uint32_t box[4]);
 
 /* Draws the ellipse of semi-axes a along x and b along y about (x, y), and a circle, as pw_ellipse does. */
 uint32_t pw_ellipse_metres(uint8_t *sheet, size_t len, uint32_t width, uint32_t height, uint32_t pitch, uint8_t ink,
-                           double east, double north, double size, double x, double y, double a, double b);
+                           double east, double north, double size, double x, double y, double a, double b, uint32_t box[4]);
 
 #ifdef __cplusplus
 }
