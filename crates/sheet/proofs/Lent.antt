@@ -7,13 +7,14 @@ use lib.IntN.{ℤ}
 use lib.ListN.{length}
 use Rattle.laws.proofs.Tests.{no, yes}
 use Rattle.sheet.specs.Sheet.{sized, sliced}
-use Rattle.sheet.specs.Reply.{Answer, done, refuse, isDone, unless}
+use Rattle.sheet.specs.Repaint.{nothing}
+use Rattle.sheet.specs.Reply.{Answer, done, refuse, withBox, isDone, unless}
 use Rattle.sheet.specs.Drawing.{ifSheet, Drawing, Draws}
 use Rattle.sheet.specs.Inner.{fits}
 use Rattle.sheet.specs.declared.Shape.{Shape}
 use Rattle.sheet.specs.declared.Refusal.{Refusal}
 use Rattle.sheet.specs.declared.Refusal.the-variants.{Size, Slice}
-use Rattle.sheet.proofs.Draws.{keeps}
+use Rattle.sheet.proofs.Draws.{kept}
 use Rattle.sheet.proofs.Unique.{number-not-0}
 
 -- two tests in turn, before an answer
@@ -85,6 +86,6 @@ module _ (k : Shape) (n : ℕ) where
     is-sheet e = done-after (sized k) (sliced k n) (ap isDone (sym tested) ∙ yes _ _ asked e)
 
 -- a drawing that is refused for its sheet
-pub sheet-refused : (d : Drawing) (k : Shape) (s : List ℕ) (a : Answer) (r : Bool) (next : Answer) → d .answer (length s) ≡ ifSheet k (length s) next
-    → a ≡ ifSheet k (length s) (done []) → r ≡ isDone a → not r ≡ true → Draws d s a s
-sheet-refused d k s a r next is tested asked e = keeps d s a (no r (isDone a) asked e) (is ∙ no-sheet k (length s) a r tested asked e next)
+pub sheet-refused : (d : Drawing) (k : Shape) (s : List ℕ) (a b : Answer) (r : Bool) (next : Answer) → d .answer (length s) ≡ ifSheet k (length s) next
+    → a ≡ ifSheet k (length s) (done []) → r ≡ isDone a → not r ≡ true → b ≡ withBox a nothing → Draws d s b s
+sheet-refused d k s a b r next is tested asked e f = kept d s a b f (no r (isDone a) asked e) (is ∙ no-sheet k (length s) a r tested asked e next)

@@ -2,6 +2,8 @@ pub mod Cells
 pub mod Chains
 pub mod Places
 pub mod Paint
+pub mod Boxes
+pub mod Smallest
 pub mod Count
 pub mod Empty
 pub mod Figures

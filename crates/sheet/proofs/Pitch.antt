@@ -1,6 +1,6 @@
 -- Rows with padding: no drawing changes it, and the pitch does not matter to the cells.
 use Prim.Native.Nat.{ℕ, _/_, _%_, _<_}
-use mathlib.Core.Path.{_≡_, refl, sym, subst, subst₂, ap, _∙_}
+use mathlib.Core.Path.{_≡_, refl, sym, subst, subst₂, ap, ap₂, _∙_}
 use mathlib.Core.List.{List, [], _∷_}
 use mathlib.Core.Bool.{Bool, true, false, cond}
 use mathlib.Core.Logic.{_⊎_, inl, inr}
@@ -11,11 +11,13 @@ use lib.ListN.{length, getD}
 use Rattle.laws.proofs.Products.{lt-or-ge, mul-lt-back}
 use Rattle.sheet.specs.Sheet.{bytes, onSheet, place, cellOf, cellAt, paint}
 use Rattle.sheet.specs.Pitch.{Padding, withPitch, Alike, AnyPitch}
-use Rattle.sheet.specs.Reply.{Answer, isDone, settled}
-use Rattle.sheet.specs.Drawing.{Inked, paintAll, ifSheet, Drawing, Draws, markAnswer, markDrawing}
+use Rattle.sheet.specs.Repaint.{nothing, join, boxOf}
+use Rattle.sheet.specs.Reply.{Answer, withBox, isDone, settled}
+use Rattle.sheet.specs.Drawing.{Inked, paintAll, boxAll, ifSheet, Drawing, Paints, telling, Draws, markAnswer, markDrawing}
 use Rattle.sheet.specs.Inner.{Disjoint, fits, Sheet}
 use Rattle.sheet.specs.declared.Cell.{Cell}
 use Rattle.sheet.specs.declared.Shape.{Shape}
+use Rattle.sheet.specs.declared.repaint.Rectangle.{Rectangle}
 use Rattle.sheet.proofs.Cells.{on-sheet, sheet-cell, place-below}
 use Rattle.sheet.proofs.Lent.{if-sheet}
 use Rattle.sheet.proofs.Limits.{fits-sheet}
@@ -46,8 +48,8 @@ paint-padding k (f ∷ fs) s n p =
     paint-padding k fs (paint k (f .ink) (f .figure) s) n p
     ∙ getD-kept _ s n (λ v. ap (λ (t : Bool). cond t (f .ink) v) (held-padding k (f .figure) n p))
 
--- Padding never changes, whatever is drawn.
-pub padding-stays : (d : Drawing) (s : List ℕ) (a : Answer) (t : List ℕ) → Draws d s a t → (n : ℕ) → Padding (d .shape) n → getD t n 0 ≡ getD s n 0
+-- Padding never changes, whatever is painted.
+pub padding-stays : (d : Drawing) (s : List ℕ) (a : Answer) (t : List ℕ) → Paints d s a t → (n : ℕ) → Padding (d .shape) n → getD t n 0 ≡ getD s n 0
 padding-stays d s a t h n p = ap (λ (u : List ℕ). getD u n 0) (h .leaves) ∙ by (isDone (d .answer (length s)))
   where
     by : (done : Bool) → getD (cond done (paintAll (d .shape) (d .figures) s) s) n 0 ≡ getD s n 0
@@ -82,12 +84,16 @@ all-alike : (k : Shape) (pitch : ℕ) (fs : List Inked) (s t : List ℕ) → Ali
 all-alike k pitch [] s t h = h
 all-alike k pitch (f ∷ fs) s t h = all-alike k pitch fs _ _ (paint-alike k pitch (f .ink) (f .figure) s t h)
 
--- The pitch does not matter to a drawing that answers alike on any two sheets of one width and height.
+-- The pitch does not matter to what is painted by an answer that is the same on any two sheets of one width and height ..
 module _ (answer : Shape → ℕ → Answer) (figures : List Inked)
     (same : (k : Shape) (pitch n m : ℕ) → fits k n ≡ true → fits (withPitch k pitch) m ≡ true → answer k n ≡ answer (withPitch k pitch) m) where
-  pub any-pitch : AnyPitch (λ (k : Shape). record { shape = k; answer = answer k; figures = figures })
+  abbrev drawingOn : Shape → Drawing
+  drawingOn k = record { shape = k; answer = answer k; figures = figures }
+
+  pub paints-any-pitch : (k : Shape) (pitch : ℕ) (s t : List ℕ) (a b : Answer) (u v : List ℕ) → Alike k pitch s t
+      → Paints (drawingOn k) s a u → Paints (drawingOn (withPitch k pitch)) t b v → (a ≡ b) × Alike k pitch u v
   unfolding fits
-  any-pitch k pitch s t a b u v h g l =
+  paints-any-pitch k pitch s t a b u v h g l =
       let e = same k pitch (length s) (length t) (h .one) (h .other) in (
         g .tells ∙ e ∙ sym (l .tells),
         subst₂ (Alike k pitch) (sym (g .leaves)) (ap (λ (a : Answer). settled a (paintAll (withPitch k pitch) figures t) t) e ∙ sym (l .leaves))
@@ -97,6 +103,20 @@ module _ (answer : Shape → ℕ → Answer) (figures : List Inked)
       by : (done : Bool) → Alike k pitch (cond done (paintAll k figures s) s) (cond done (paintAll (withPitch k pitch) figures t) t)
       by true = all-alike k pitch figures s t h
       by false = h
+
+-- .. nor to the rectangles,
+boxes-pitch : (k : Shape) (pitch : ℕ) (fs : List Inked) → boxAll k fs ≡ boxAll (withPitch k pitch) fs
+unfolding boxOf boxAll
+boxes-pitch k pitch [] = refl
+boxes-pitch k pitch (f ∷ fs) = ap (join (boxOf k (f .figure))) (boxes-pitch k pitch fs)
+
+-- and so not to the drawing.
+module _ (answer : Shape → ℕ → Answer) (figures : List Inked)
+    (same : (k : Shape) (pitch n m : ℕ) → fits k n ≡ true → fits (withPitch k pitch) m ≡ true → answer k n ≡ answer (withPitch k pitch) m) where
+  pub any-pitch : AnyPitch (λ (k : Shape). record { shape = k; answer = answer k; figures = figures })
+  any-pitch =
+      paints-any-pitch (λ k n. withBox (answer k n) (settled (answer k n) (boxAll k figures) nothing)) figures (λ k pitch n m e f.
+      ap₂ (λ (a : Answer) (r : Rectangle). withBox a (settled a r nothing)) (same k pitch n m e f) (boxes-pitch k pitch figures))
 
 -- what a drawing told and left on one of two such sheets, it tells on the other, and leaves bytes there that are alike
 pub record Carried (draw : Shape → Drawing) (k : Shape) (pitch : ℕ) (s : List ℕ) (b : Answer) (v : List ℕ) : Type 0 where
@@ -109,8 +129,9 @@ pub carried : (draw : Shape → Drawing) → AnyPitch draw → (k : Shape) (pitc
 carried draw any k pitch s t b v h g =
     let d = draw k in
     let u = settled (d .answer (length s)) (paintAll (d .shape) (d .figures) s) s in
-    let one : Draws d s (d .answer (length s)) u = record { tells = refl; leaves = refl } in
-    let same = any k pitch s t (d .answer (length s)) b u v h one g in
+    let a = telling d .answer (length s) in
+    let one : Draws d s a u = record { tells = refl; leaves = refl } in
+    let same = any k pitch s t a b u v h one g in
     record { bytes = u; drawn = subst (λ (a : Answer). Draws d s a u) (same .0) one; alike = same .1 }
 
 -- what follows the test of a sheet, on two sheets

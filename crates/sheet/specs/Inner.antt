@@ -6,9 +6,11 @@ use mathlib.Core.Bool.{Bool, cond, _&&_}
 use lib.ListN.{length, set}
 use lib.IntN.{ℤ, pos, natAbs, _+ℤ_, _-ℤ_}
 use Rattle.sheet.specs.Sheet.{sized, bytes, sliced, onSheet, place, coordinate}
+use Rattle.sheet.specs.Repaint.{alone, join}
 use Rattle.sheet.specs.declared.Cell.{Cell}
 use Rattle.sheet.specs.declared.Shape.{Shape}
 use Rattle.sheet.specs.declared.Spot.{Spot}
+use Rattle.sheet.specs.declared.repaint.Rectangle.{Rectangle}
 
 -- a coordinate within the limits, moved; 0 for any other number
 unfoldable pub moved : ℤ → ℕ
@@ -59,3 +61,7 @@ pub record Sheet (k : Shape) (s : List ℕ) : Type 0 where
 -- the bytes with a cell's own set to the ink, where the cell is on the sheet
 unfoldable pub inkedAt : Shape → ℕ → Cell → List ℕ → List ℕ
 inkedAt k ink c s = cond (onSheet k c) (set s (place k c) ink) s
+
+-- and the rectangle with the cell in it, where the cell is on the sheet
+unfoldable pub joinedAt : Shape → Cell → Rectangle → Rectangle
+joinedAt k c r = cond (onSheet k c) (join r (alone (natAbs (c .x)) (natAbs (c .y)))) r

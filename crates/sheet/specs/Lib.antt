@@ -1,5 +1,6 @@
 pub mod Sheet
 pub mod Chain
+pub mod Repaint
 pub mod Reply
 pub mod Drawing
 pub mod Pitch

@@ -1,4 +1,4 @@
--- Document 01, "Reply numbers", with those of document 02: the table, and what a reply is.
+-- Document 01, "Reply numbers", with those of document 02: the table, and what a reply is; a drawing's with the rectangle of K7.
 use Prim.Native.Nat.{ℕ}
 use mathlib.Core.List.{List, [], _∷_}
 use mathlib.Core.Bool.{Bool, cond}
@@ -7,8 +7,11 @@ use lib.IntN.{ℤ, pos, natAbs}
 use lib.ListN.{getD}
 use Rattle.sheet.specs.declared.Refusal.{Refusal}
 use Rattle.sheet.specs.declared.Refusal.the-variants.{Size, Coordinate, Radius, Pieces, Room, Survey, NoCell, Short, Kind, Length, Full, Slice, Kindless, Work, Start}
+use Rattle.sheet.specs.declared.Drawn.{Drawn}
 use Rattle.sheet.specs.declared.Reply.{Reply}
 use Rattle.sheet.specs.declared.Reply.the-variants.{Done, Counted, Refused, RefusedAt}
+use Rattle.sheet.specs.declared.repaint.Rectangle.{Rectangle}
+use Rattle.sheet.specs.Repaint.{nothing}
 
 -- the refusal's number in the table
 abbrev pub number : Refusal → ℕ
@@ -28,20 +31,21 @@ number Kindless = 16
 number Work = 17
 number Start = 18
 
--- the paper's answer: a number of the table, and the values that go with it
+-- the paper's answer: a number of the table, the values that go with it, and the rectangle that a drawing tells
 pub record Answer : Type 0 where
   pub number : ℕ
   pub values : List ℤ
+  pub box : Rectangle
 
 -- 0 with its values; a refusal's number alone; and, of a file, with its offset
 abbrev pub done : List ℤ → Answer
-done values = record { number = 0; values = values }
+done values = record { number = 0; values = values; box = nothing }
 
 abbrev pub refuse : Refusal → Answer
-refuse r = record { number = number r; values = [] }
+refuse r = record { number = number r; values = []; box = nothing }
 
 abbrev pub refuseAt : Refusal → ℕ → Answer
-refuseAt r at = record { number = number r; values = pos at ∷ [] }
+refuseAt r at = record { number = number r; values = pos at ∷ []; box = nothing }
 
 -- a reply in the paper's words
 abbrev pub told : Reply → Answer
@@ -49,6 +53,13 @@ told Done = done []
 told (Counted n) = done (pos n ∷ [])
 told (Refused r) = refuse r
 told (RefusedAt r at) = refuseAt r at
+
+-- an answer with a rectangle, and what came of a drawing in the paper's words
+abbrev pub withBox : Answer → Rectangle → Answer
+withBox a r = record { number = a .number; values = a .values; box = r }
+
+abbrev pub toldDrawn : Drawn → Answer
+toldDrawn d = withBox (told (d .reply)) (d .rectangle)
 
 -- whether an answer is 0, and its first value, or 0 where it has none
 abbrev pub isDone : Answer → Bool

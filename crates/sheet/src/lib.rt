@@ -2,9 +2,14 @@
 ghost use mathlib.Core.Path.{_≡_};
 ghost use mathlib.Core.List.{[]};
 ghost use Rattle.sheet.specs.Sheet.{size, pitched, coordinate, inLimits, semiAxis, axes, split};
-ghost use Rattle.sheet.specs.Reply.{number, done, told, isDone, valueOf};
+ghost use Rattle.sheet.specs.Repaint.{nothing};
+ghost use Rattle.sheet.specs.Reply.{number, done, told, withBox, toldDrawn, isDone, valueOf};
 ghost use Rattle.sheet.specs.Drawing.{ifSheet, Draws, markDrawing};
-ghost use Rattle.sheet.specs.Inner.{moved, lowered, movedCell, unmovedCell, loweredCell, inkedAt};
+ghost use Rattle.sheet.specs.Inner.{moved, lowered, movedCell, unmovedCell, loweredCell, inkedAt, joinedAt};
+
+mod repaint;
+
+pub use repaint::Rectangle;
 
 // A cell of the unlimited grid. A pen that C lends holds two, so it has C's layout.
 #[repr(C)]
@@ -139,6 +144,22 @@ impl Reply {
         ensures { λ r. ⌜ r ≡ isDone (told self) ⌝ }
     {
         self.number() == 0
+    }
+}
+
+// What came of a drawing: the reply, and what to repaint, which is nothing where it is refused.
+pub struct Drawn {
+    pub reply: Reply,
+    pub rectangle: Rectangle,
+}
+
+// A drawing that set no cell.
+pub fn undrawn(reply: Reply) -> Drawn
+    ensures { λ r. ⌜ toldDrawn r ≡ withBox (told reply) nothing ⌝ }
+{
+    Drawn {
+        reply,
+        rectangle: Rectangle::none(),
     }
 }
 
@@ -284,17 +305,51 @@ pub fn ink_at(sheet: &mut [u8], shape: Shape, ink: u8, spot: Spot)
     sheet[at] = ink;
 }
 
+// The rectangle with the cell at the spot in it, where that is on the sheet; any other is skipped.
+pub fn join_at(shape: Shape, spot: Spot, rectangle: Rectangle) -> Rectangle
+    ensures { λ r. ⌜ r ≡ joinedAt shape (unmovedCell spot) rectangle ⌝ }
+{
+    let x = spot.x;
+    let y = spot.y;
+    let width = shape.width;
+    let height = shape.height;
+    if x < 65536 {
+        return rectangle;
+    }
+    if y < 65536 {
+        return rectangle;
+    }
+    let column = x - 65536;
+    let row = y - 65536;
+    if width <= column {
+        return rectangle;
+    }
+    if height <= row {
+        return rectangle;
+    }
+    rectangle.join(Rectangle {
+        left: column,
+        top: row,
+        right: column + 1,
+        bottom: row + 1,
+    })
+}
+
 // Sets one cell to the ink: the smallest drawing.
-pub fn mark(sheet: &mut [u8], shape: Shape, ink: u8, cell: Cell) -> Reply
-    ensures { λ r. ⌜ Draws (markDrawing shape ink cell) (now (sheet .entry)) (told r) (now (sheet .exit)) ⌝ }
+pub fn mark(sheet: &mut [u8], shape: Shape, ink: u8, cell: Cell) -> Drawn
+    ensures { λ r. ⌜ Draws (markDrawing shape ink cell) (now (sheet .entry)) (toldDrawn r) (now (sheet .exit)) ⌝ }
 {
     let tested = check(shape, sheet.len());
     if !tested.is_done() {
-        return tested;
+        return undrawn(tested);
     }
     if !in_limits(cell) {
-        return Reply::Refused(Refusal::Coordinate);
+        return undrawn(Reply::Refused(Refusal::Coordinate));
     }
-    ink_at(sheet, shape, ink, lift_cell(cell));
-    Reply::Done
+    let spot = lift_cell(cell);
+    ink_at(sheet, shape, ink, spot);
+    Drawn {
+        reply: Reply::Done,
+        rectangle: join_at(shape, spot, Rectangle::none()),
+    }
 }

@@ -12,22 +12,22 @@ use Rattle.sheet.proofs.ink_at.Tie as tie
 returns : tie.Need-returns
 returns c =
     let a = c .before .args in
-    mark-off (a .shape) (a .ink) (a .spot) (now (a .sheet)) (λ i j l m p q. omega arith)
+    mark-off (a .shape) (a .spot) (a .ink) (now (a .sheet)) (λ i j l m p q. omega arith)
 
 returns-2 : tie.Need-returns-2
 returns-2 c =
     let a = c .before .before .args in
-    mark-off (a .shape) (a .ink) (a .spot) (now (a .sheet)) (λ i j l m p q. omega arith)
+    mark-off (a .shape) (a .spot) (a .ink) (now (a .sheet)) (λ i j l m p q. omega arith)
 
 returns-3 : tie.Need-returns-3
 returns-3 c =
     let a = c .before .before .before .args in
-    mark-off (a .shape) (a .ink) (a .spot) (now (a .sheet)) (λ i j l m p q. omega arith)
+    mark-off (a .shape) (a .spot) (a .ink) (now (a .sheet)) (λ i j l m p q. omega arith)
 
 returns-4 : tie.Need-returns-4
 returns-4 c =
     let a = c .before .before .before .before .args in
-    mark-off (a .shape) (a .ink) (a .spot) (now (a .sheet)) (λ i j l m p q. omega arith)
+    mark-off (a .shape) (a .spot) (a .ink) (now (a .sheet)) (λ i j l m p q. omega arith)
 
 cast-at : tie.Need-cast-at
 cast-at c = search needs
@@ -51,7 +51,7 @@ add-at c =
 returns-5 : tie.Need-returns-5
 returns-5 c =
     let a = c .before .before .before .before .before .args in
-    sym (set-out (now (a .sheet)) _ (a .ink) (c .if5 .taken)) ∙ mark-on (a .shape) (a .ink) (a .spot) (now (a .sheet)) (omega arith) (omega arith) (omega arith) (omega arith)
+    sym (set-out (now (a .sheet)) _ (a .ink) (c .if5 .taken)) ∙ mark-on (a .shape) (a .spot) (a .ink) (now (a .sheet)) (omega arith) (omega arith) (omega arith) (omega arith)
 
 slice-write-sheet : tie.Need-slice-write-sheet
 slice-write-sheet c = search needs
@@ -62,7 +62,7 @@ same-length c = search needs
 returns-6 : tie.Need-returns-6
 returns-6 c =
     let a = c .before .before .before .before .before .args in
-    mark-on (a .shape) (a .ink) (a .spot) (now (a .sheet)) (omega arith) (omega arith) (omega arith) (omega arith)
+    mark-on (a .shape) (a .spot) (a .ink) (now (a .sheet)) (omega arith) (omega arith) (omega arith) (omega arith)
 
 pub ink-at-spec : {M : Type 1} → statement M
 ink-at-spec =
