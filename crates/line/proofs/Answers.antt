@@ -1,8 +1,8 @@
 -- Drawing a line, by the course that the code walks.
 use Prim.Native.Nat.{ℕ, _+_, _≤_}
-use mathlib.Core.Path.{_≡_, refl, sym, ap, ap₂, _∙_}
+use mathlib.Core.Path.{_≡_, refl, sym, subst, ap, ap₂, _∙_}
 use mathlib.Core.List.{List, [], _∷_}
-use mathlib.Core.Bool.{Bool, true, false, _&&_}
+use mathlib.Core.Bool.{Bool, true, false, cond, _&&_}
 use native.Mathlib.Omega.{arith}
 use lib.ListN.{length}
 use lib.Dec.{leb}
@@ -12,22 +12,24 @@ use Rattle.laws.specs.Below.{any}
 use Rattle.laws.proofs.Below.{any-as}
 use Rattle.laws.proofs.Ints.{parts, one-zero}
 use Rattle.sheet.specs.Sheet.{sized, sliced, coordinate, inLimits, cellOf, isCell, paint, cellsOn}
-use Rattle.sheet.specs.Reply.{Answer, done, refuse, unless, isDone, settled}
-use Rattle.sheet.specs.Drawing.{Draws, ifSheet}
+use Rattle.sheet.specs.Repaint.{nothing, boxOf}
+use Rattle.sheet.specs.Reply.{Answer, done, refuse, withBox, unless, isDone, settled}
+use Rattle.sheet.specs.Drawing.{boxAll, telling, Draws, ifSheet}
 use Rattle.sheet.specs.Inner.{Moved, moved, unmoved, movedCell, unmovedCell, fits}
 use Rattle.sheet.specs.declared.Cell.{Cell}
 use Rattle.sheet.specs.declared.Shape.{Shape}
 use Rattle.sheet.specs.declared.Spot.{Spot}
 use Rattle.sheet.specs.declared.Refusal.the-variants.{Size, Slice, Coordinate}
+use Rattle.sheet.proofs.Boxes.{box-as, box-only}
 use Rattle.sheet.proofs.Count.{cells-as}
-use Rattle.sheet.proofs.Draws.{draws, drawn, draws-as}
+use Rattle.sheet.proofs.Draws.{draws, drawn, kept, box-told, draws-as}
 use Rattle.sheet.proofs.Lent.{if-sheet}
 use Rattle.sheet.proofs.Limits.{LiftedCell, lift-in, limit-low, limit-high, limit-below, limit-above, limits-x, limits-y, moved-in, moved-out, stands-parts}
 use Rattle.sheet.proofs.Paint.{paint-as}
 use Rattle.line.specs.Rule.{long, nth, onLine}
 use Rattle.line.specs.Draw.{lineAnswer, lineDrawing}
 use Rattle.line.specs.Inner.Course.{courseOf, Runs, firstCells}
-use Rattle.line.specs.Inner.Span.{On}
+use Rattle.line.specs.Inner.Span.{On, toldCells}
 use Rattle.line.specs.declared.Course.{Course}
 use Rattle.line.proofs.Bridge.{ends-lifted, course-runs, course-cell, course-long}
 
@@ -48,7 +50,12 @@ module _ (k : Shape) (a b : Cell) where
   pub line-drawn : (ink : ℕ) (s t : List ℕ) (r : Answer) → fits k (length s) ≡ true → inLimits a ≡ true → inLimits b ≡ true
       → Draws (lineDrawing k ink a b) s r t → t ≡ paint k ink (onLine a b) s
   line-drawn ink s t r e f g h =
-      drawn (lineDrawing k ink a b) s r t h (ap isDone (line-inside (length s) e (ap₂ _&&_ f g)))
+      drawn (telling (lineDrawing k ink a b)) s r t h (ap isDone (line-inside (length s) e (ap₂ _&&_ f g)))
+
+  pub line-told-box : (ink : ℕ) (s t : List ℕ) (r : Answer) → fits k (length s) ≡ true → inLimits a ≡ true → inLimits b ≡ true
+      → Draws (lineDrawing k ink a b) s r t → r .box ≡ boxOf k (onLine a b)
+  line-told-box ink s t r e f g h =
+      box-told (lineDrawing k ink a b) s r t h (ap isDone (line-inside (length s) e (ap₂ _&&_ f g))) ∙ box-only k ink (onLine a b)
 
   module _ (p q : Spot) (c : Course) (P : LiftedCell a p) (Q : LiftedCell b q) (ec : c ≡ courseOf p q) where
     pub line-runs : Runs c
@@ -57,12 +64,21 @@ module _ (k : Shape) (a b : Cell) where
     cells : (d : Cell) → firstCells c (c .long + 1) d ≡ onLine a b d
     cells d = ap (λ (c : Course). firstCells c (c .long + 1) d) ec ∙ line-cells a b p q P Q d
 
-    pub line-done : (ink n : ℕ) (s t : List ℕ) → fits k (length s) ≡ true → (inLimits a && inLimits b) ≡ true
-        → n ≡ cellsOn k (firstCells c (c .long + 1)) → t ≡ paint k ink (firstCells c (c .long + 1)) s
-        → Draws (lineDrawing k ink a b) s (done (pos n ∷ [])) t
-    line-done ink n s t e f en et =
-        let m : n ≡ cellsOn k (onLine a b) = en ∙ cells-as k _ _ (λ x y u v. cells (cellOf x y)) in
-        draws _ s _ t (line-inside (length s) e f ∙ ap (λ (n : ℕ). done (pos n ∷ [])) (sym m)) (et ∙ paint-as k ink _ _ s (λ x y u v. cells (cellOf x y)))
+    pub line-painted : (ink : ℕ) (s t : List ℕ) → t ≡ paint k ink (firstCells c (c .long + 1)) s → t ≡ paint k ink (onLine a b) s
+    line-painted ink s t e = e ∙ paint-as k ink _ _ s (λ x y u v. cells (cellOf x y))
+
+    pub line-boxed : boxOf k (firstCells c (c .long + 1)) ≡ boxOf k (onLine a b)
+    line-boxed = box-as k _ (onLine a b) (λ x y u v. cells (cellOf x y))
+
+    -- what is told of its cells, and what is painted
+    pub line-done : (ink : ℕ) (r : Answer) (s t : List ℕ) → fits k (length s) ≡ true → (inLimits a && inLimits b) ≡ true
+        → r ≡ toldCells k (firstCells c (c .long + 1)) → t ≡ paint k ink (firstCells c (c .long + 1)) s → Draws (lineDrawing k ink a b) s r t
+    line-done ink r s t e f er et =
+        let n = cells-as k _ (onLine a b) (λ x y u v. cells (cellOf x y)) in
+        let told : r ≡ toldCells k (onLine a b) = er ∙ (λ i. withBox (done (pos (n i) ∷ [])) (line-boxed i)) in
+        subst (λ (r : Answer). Draws (lineDrawing k ink a b) s r t) (sym told)
+        (draws (lineDrawing k ink a b) s (done (pos (cellsOn k (onLine a b)) ∷ [])) (boxOf k (onLine a b)) t refl (line-inside (length s) e f)
+        (line-painted ink s t et) (sym (box-only k ink (onLine a b))))
 
 -- a spot that stands for a cell within the limits is that cell, lifted
 moved-of : (m : ℕ) → coordinate (unmoved m) ≡ true → Moved m
@@ -118,18 +134,18 @@ not-done k n = by (sized k) (sliced k n)
     by true false = refl
     by false u = refl
 
-untouched : (a r : Answer) (t s : List ℕ) → a ≡ r → isDone r ≡ false → settled a t s ≡ s
-untouched a r t s e o = simp (e, o)
-
 pub line-lifted : (k : Shape) (ink : ℕ) (a b : Cell) (p q : Spot) (s t : List ℕ) (r : Answer) → p ≡ movedCell a → q ≡ movedCell b
     → Draws (lineDrawing k ink (unmovedCell p) (unmovedCell q)) s r t → Draws (lineDrawing k ink a b) s r t
 line-lifted k ink a b p q s t r e f h = by (inLimits a && inLimits b) refl
   where
     by : (u : Bool) → (inLimits a && inLimits b) ≡ u → Draws (lineDrawing k ink a b) s r t
-    by true g = let l = ends-lifted a b g p q e f in draws-as _ s _ r t (λ i. lineDrawing k ink (l .0 .stands i) (l .1 .stands i)) h
+    by true g = let l = ends-lifted a b g p q e f in draws-as (lineDrawing k ink (unmovedCell p) (unmovedCell q)) s (lineDrawing k ink a b) r t (λ i. lineDrawing k ink (l .0 .stands i) (l .1 .stands i)) h
     by false g =
         let n = length s in
+        let X = ifSheet k n (refuse Coordinate) in
         let u = outside k (unmovedCell p) (unmovedCell q) n ((λ i. inLimits (unmovedCell (e i)) && inLimits (unmovedCell (f i))) ∙ (λ i. lifted-limits a i && lifted-limits b i) ∙ g) in
-        let v = outside k a b n g in
         let o = not-done k n in
-        record { tells = h .tells ∙ u ∙ sym v; leaves = h .leaves ∙ untouched _ _ _ s u o ∙ sym (untouched _ _ _ s v o) }
+        let box = boxAll k (lineDrawing k ink (unmovedCell p) (unmovedCell q) .figures) in
+        let told : r ≡ withBox X nothing = h .tells ∙ ap (λ (a : Answer). withBox a (settled a box nothing)) u ∙ ap (λ (t : Bool). withBox X (cond t box nothing)) o in
+        let same : s ≡ t = sym (h .leaves ∙ simp (u, o)) in
+        subst (λ (t : List ℕ). Draws (lineDrawing k ink a b) s r t) same (kept (lineDrawing k ink a b) s X r told o (outside k a b n g))

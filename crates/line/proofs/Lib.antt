@@ -9,6 +9,7 @@ pub mod Chains
 pub mod Distances
 pub mod Distinct
 pub mod EitherEnd
+pub mod Ended
 pub mod Filled
 pub mod Gentle
 pub mod Fixed
@@ -26,5 +27,6 @@ pub mod Rise
 pub mod Third
 pub mod Touching
 pub mod Walking
+pub mod Spanned
 pub mod Whole
 pub mod Within

@@ -28,7 +28,7 @@ use Rattle.line.specs.declared.Course.{Course}
 
 module _ (k : Shape) (c : Course) where
   -- a spot that is a cell of the sheet is on it
-  is-on : (p : Spot) (x y : ℕ) → x < k .width → y < k .height → T (isCell (unmovedCell p) (cellOf x y)) → On k p
+  pub is-on : (p : Spot) (x y : ℕ) → x < k .width → y < k .height → T (isCell (unmovedCell p) (cellOf x y)) → On k p
   is-on p x y a b t =
       let e = spot→ p x y t in
       record { left = omega arith; top = omega arith; right = omega arith; bottom = omega arith }
@@ -60,7 +60,7 @@ module _ (k : Shape) (c : Course) where
   pub paint-more : Disjoint k → (ink : ℕ) (s : List ℕ) (n : ℕ) → On k (spotAt c n)
       → set (paint k ink (firstCells c n) s) (byteOf k (spotAt c n)) ink ≡ paint k ink (firstCells c (n + 1)) s
   paint-more w ink s n o =
-      mark-on k ink (spotAt c n) (paint k ink (firstCells c n) s) (o .left) (o .top) (omega (arith, o .left, o .right)) (omega (arith, o .top, o .bottom))
+      mark-on k (spotAt c n) ink (paint k ink (firstCells c n) s) (o .left) (o .top) (omega (arith, o .left, o .right)) (omega (arith, o .top, o .bottom))
       ∙ inked-paints k ink (unmovedCell (spotAt c n)) (paint k ink (firstCells c n) s) w
       ∙ paint-then k ink (firstCells c n) (isCell (unmovedCell (spotAt c n))) s
       ∙ sym (paint-as k ink _ _ s (λ x y a b. more-cells n (cellOf x y)))

@@ -1,7 +1,6 @@
 -- A line whose ends are one cell, or touch by a side or a corner, is its ends.
 use Prim.Native.Nat.{ℕ, zero, suc, _+_, _≤_}
 use mathlib.Core.Path.{_≡_, refl, sym, subst, ap, _∙_}
-use mathlib.Core.List.{List}
 use mathlib.Core.Bool.{Bool, true, _&&_, _||_}
 use mathlib.Core.Logic.{_⊎_, inl, inr}
 use native.Mathlib.Omega.{arith}
@@ -9,15 +8,12 @@ use borrow.Author.Tests.{leb-true}
 use lib.Dec.{T, leb}
 use Rattle.laws.proofs.Apart.{apart, apart-is}
 use Rattle.laws.proofs.Tests.{or-l, or-r, or-e, same, halves}
-use Rattle.sheet.specs.Sheet.{cellOf, isCell, paint}
-use Rattle.sheet.specs.Inner.{Disjoint, unmoved, unmovedCell, inkedAt}
+use Rattle.sheet.specs.Sheet.{isCell}
+use Rattle.sheet.specs.Inner.{unmoved, unmovedCell}
 use Rattle.sheet.specs.declared.Cell.{Cell}
-use Rattle.sheet.specs.declared.Shape.{Shape}
 use Rattle.sheet.specs.declared.Spot.{Spot}
 use Rattle.sheet.proofs.Cells.{is-cell→, is-cell-refl}
 use Rattle.sheet.proofs.Limits.{stands-parts}
-use Rattle.sheet.proofs.Marks.{inked-paints}
-use Rattle.sheet.proofs.Paint.{paint-as, paint-then}
 use Rattle.line.specs.Rule.{long, onLine}
 use Rattle.line.specs.Listing.{listed}
 use Rattle.line.proofs.Bridge.{longer-le}
@@ -36,7 +32,7 @@ module _ (a b : Cell) (l : long a b ≤ 1) (d : Cell) where
   end-is : (c : Cell) (n : ℕ) → n ≤ long a b → listed a b n ≡ c → T (isCell c d) → T (onLine a b d)
   end-is c n m e t = subst (λ (d : Cell). T (onLine a b d)) (e ∙ sym (is-cell→ c d t)) (listed-on a b n m)
 
-  on-touching : onLine a b d ≡ (isCell a d || isCell b d)
+  pub on-touching : onLine a b d ≡ (isCell a d || isCell b d)
   on-touching =
       same _ _ (λ t. let f = on-listed a b d t in is-end (f .number) (f .within) (f .is-cell))
       (λ t. by (or-e (isCell a d) (isCell b d) t))
@@ -45,14 +41,12 @@ module _ (a b : Cell) (l : long a b ≤ 1) (d : Cell) where
       by (inl t) = end-is a 0 (omega arith) (listed-first a b) t
       by (inr t) = end-is b (long a b) (omega arith) (listed-last a b) t
 
--- so inking both draws it
-pub touching-inked : (k : Shape) (ink : ℕ) (a b : Cell) (s : List ℕ) → Disjoint k → long a b ≤ 1
-    → inkedAt k ink b (inkedAt k ink a s) ≡ paint k ink (onLine a b) s
-touching-inked k ink a b s w l =
-    inked-paints k ink b (inkedAt k ink a s) w
-    ∙ ap (paint k ink (isCell b)) (inked-paints k ink a s w)
-    ∙ paint-then k ink _ _ s
-    ∙ sym (paint-as k ink _ _ s (λ x y u v. on-touching a b l (cellOf x y)))
+-- each end of a line is a cell of it
+pub line-first : (a b : Cell) → T (onLine a b a)
+line-first a b = subst (λ (d : Cell). T (onLine a b d)) (listed-first a b) (listed-on a b 0 (omega arith))
+
+pub line-last : (a b : Cell) → T (onLine a b b)
+line-last a b = subst (λ (d : Cell). T (onLine a b d)) (listed-last a b) (listed-on a b (long a b) (omega arith))
 
 -- spots whose coordinates are the same or neighbours stand for cells that are one, or touch
 abbrev pub near : ℕ → ℕ → Bool

@@ -1,6 +1,6 @@
 -- A line whose two ends are on the sheet is on it whole, and one of one cell or two is its ends.
-use Prim.Native.Nat.{ℕ, zero, suc, _+_, _≤_, _<_}
-use mathlib.Core.Path.{_≡_, refl, sym, subst, ap, _∙_}
+use Prim.Native.Nat.{ℕ, zero, suc, _+_, _-_, _≤_, _<_}
+use mathlib.Core.Path.{_≡_, refl, sym, subst, ap, ap₂, _∙_}
 use mathlib.Core.Bool.{Bool, true, false, cond, _||_, or-self}
 use mathlib.Core.List.{List}
 use native.Mathlib.Omega.{arith}
@@ -8,6 +8,7 @@ use lib.Dec.{leb, ltb}
 use borrow.Author.Tests.{leb-true, leb-false}
 use Rattle.laws.specs.Below.{any}
 use Rattle.sheet.specs.Sheet.{cellOf, isCell, paint}
+use Rattle.sheet.specs.Repaint.{boxOf}
 use Rattle.sheet.specs.Inner.{unmovedCell, inkedAt, Disjoint}
 use Rattle.sheet.specs.declared.Cell.{Cell}
 use Rattle.sheet.specs.declared.Shape.{Shape}
@@ -16,10 +17,11 @@ use Rattle.sheet.proofs.Marks.{inked-paints}
 use Rattle.sheet.proofs.Paint.{paint-as, paint-then}
 use Rattle.line.specs.Rule.{longer, shorter, rise}
 use Rattle.line.specs.Inner.Course.{gap, stepped, spotAt, lesserSpot, courseFrom, courseOf, Runs, firstCells}
-use Rattle.line.specs.Inner.Span.{stepsX, stepsY, On, Spans}
+use Rattle.line.specs.Inner.Span.{stepsX, stepsY, On, Spans, spanning}
 use Rattle.line.specs.declared.Course.{Course}
 use Rattle.line.proofs.Bridge.{shorter-le, lesser-y, not-lesser-y}
 use Rattle.line.proofs.Rise.{rise-start, rise-short, rise-end}
+use Rattle.line.proofs.Spanned.{range-box, spanning-turned}
 
 -- the steps to the nth cell are between those to the first and those to the last, along either axis
 across : (steep : Bool) (L S n : ℕ) → S ≤ L → n ≤ L
@@ -112,6 +114,23 @@ course-whole k c p q e r a b = whole k c r (at-ends .0) (at-ends .1)
 
     at-ends : On k (spotAt c 0) × On k (spotAt c (c .long))
     at-ends = rw e (either (lesserSpot p q) refl)
+
+-- and its rectangle is that between them
+pub whole-box : (k : Shape) → k .width ≤ 4096 → k .height ≤ 4096 → (c : Course) (p q : Spot) → c ≡ courseOf p q → Runs c → On k p → On k q
+    → boxOf k (firstCells c (c .long + 1)) ≡ spanning p q
+unfolding courseOf
+whole-box k w h c p q e r a b =
+    range-box k w h c 0 (c .long + 1) (omega arith) (course-whole k c p q e r a b)
+    ∙ ap (λ (n : ℕ). spanning (spotAt c 0) (spotAt c n)) (last (c .long))
+    ∙ (λ i. spanning (spotAt (e i) 0) (spotAt (e i) (e i .long)))
+    ∙ either (lesserSpot p q) refl
+  where
+    last : (n : ℕ) → n + 1 - 1 ≡ n
+    last n = omega arith
+
+    either : (t : Bool) → lesserSpot p q ≡ t → let d = cond t (courseFrom p q) (courseFrom q p) in spanning (spotAt d 0) (spotAt d (d .long)) ≡ spanning p q
+    either true f = ap₂ spanning (first-spot p q) (last-spot p q (lesser-y p q f))
+    either false f = ap₂ spanning (first-spot q p) (last-spot q p (not-lesser-y p q f)) ∙ spanning-turned q p
 
 -- the cells of a line of one or two
 end-cells : (c : Course) → c .long ≤ 1 → (d : Cell)

@@ -3,21 +3,23 @@ ghost use mathlib.Core.Path.{_≡_};
 ghost use mathlib.Core.Logic.{_⊎_};
 ghost use mathlib.Core.Bool.{true, cond};
 ghost use Prim.Native.Nat.{_+_, _-_, _*_, _/_, _%_, _≤_, _<_};
-ghost use Rattle.sheet.specs.Sheet.{inLimits, paint, cellsOn};
-ghost use Rattle.sheet.specs.Reply.{told};
+ghost use Rattle.sheet.specs.Sheet.{onSheet, inLimits, paint};
+ghost use Rattle.sheet.specs.Reply.{toldDrawn};
 ghost use Rattle.sheet.specs.Drawing.{Draws};
 ghost use Rattle.sheet.specs.Inner.{Sheet, Disjoint, unmovedCell};
-ghost use Rattle.line.specs.Rule.{rise};
+ghost use Rattle.line.specs.Rule.{rise, onLine};
 ghost use Rattle.line.specs.Draw.{lineDrawing};
 ghost use Rattle.line.specs.Inner.Course.{spotAt, Runs, firstCells};
 ghost use Rattle.line.specs.Inner.Fixed.{gone, Climbs};
-ghost use Rattle.line.specs.Inner.Span.{enters, leaves, FirstAt, Enters, Leaves, On, Spans, byteOf, aloneBy, bothBy};
+ghost use Rattle.line.specs.Inner.Span.{enters, leaves, FirstAt, Enters, Leaves, On, Spans, byteOf, aloneBy, bothBy, spanning, toldCells};
 use crate::Course;
 use crate::chosen;
 use crate::course_of;
 use crate::gradient_of;
 use crate::spot_of;
 use sheet::Cell;
+use sheet::Drawn;
+use sheet::Rectangle;
 use sheet::Refusal;
 use sheet::Reply;
 use sheet::Shape;
@@ -239,17 +241,43 @@ fn walk(
     }
 }
 
-// Inks the cells first, .., past - 1 of a line that leaves the sheet.
-fn part_line(sheet: &mut [u8], shape: Shape, ink: u8, course: Course, first: u32, past: u32)
+// The rectangle from a spot on the sheet to one no higher.
+fn down_to(first: Spot, last: Spot) -> Rectangle
+    requires { ⌜ (65536 ≤ first .x) × (65536 ≤ last .x) × (65536 ≤ first .y) × (first .y ≤ last .y) × (last .y ≤ 131072) ⌝ }
+    requires { ⌜ (first .x ≤ 131072) × (last .x ≤ 131072) ⌝ }
+    ensures { λ r. ⌜ r ≡ spanning first last ⌝ }
+{
+    Rectangle {
+        left: smaller(first.x, last.x) - 65536,
+        top: first.y - 65536,
+        right: larger(first.x, last.x) - 65535,
+        bottom: last.y - 65535,
+    }
+}
+
+// Inks the cells first, .., past - 1 of a line that leaves the sheet; the rectangle from the first to the last.
+fn part_line(
+    sheet: &mut [u8],
+    shape: Shape,
+    ink: u8,
+    course: Course,
+    first: u32,
+    past: u32,
+) -> Rectangle
     requires { ⌜ Sheet shape (now sheet) × Runs course ⌝ }
     requires { ⌜ (first < past) × Spans shape course first past ⌝ }
-    ensures { λ r. ⌜ now (sheet .exit) ≡ paint shape ink (firstCells course (course .long + 1)) (now (sheet .entry)) ⌝ }
+    ensures { λ _. ⌜ now (sheet .exit) ≡ paint shape ink (firstCells course (course .long + 1)) (now (sheet .entry)) ⌝ }
+    ensures { λ r. ⌜ r ≡ spanning (spotAt course first) (spotAt course (past - 1)) ⌝ }
 {
     let by = gradient_of(course.long, course.short);
     let t = tally_at(course.long, by, first);
-    let at = byte_at(shape, course, first, whole(t));
+    let q = whole(t);
+    let at = byte_at(shape, course, first, q);
     let slope = Slope { start: part(t), by };
     walk(sheet, shape, ink, course, first, past, slope, at);
+    let last = past - 1;
+    let end = spot_of(course, last, whole(tally_at(course.long, by, last)));
+    down_to(spot_of(course, first, q), end)
 }
 
 // Inks a line of one cell or two: they are its ends.
@@ -285,19 +313,22 @@ fn whole_line(sheet: &mut [u8], shape: Shape, ink: u8, course: Course)
     walk(sheet, shape, ink, course, 0, past, slope, at);
 }
 
-// Inks the cells of a line that are on the sheet; how many they are.
-fn run(sheet: &mut [u8], shape: Shape, ink: u8, course: Course) -> u32
+// Inks the cells of a line that are on the sheet; how many they are, and their rectangle.
+fn run(sheet: &mut [u8], shape: Shape, ink: u8, course: Course) -> Drawn
     requires { ⌜ Sheet shape (now sheet) × Runs course ⌝ }
-    ensures { λ r. ⌜ (r ≡ cellsOn shape (firstCells course (course .long + 1)))
-        × (now (sheet .exit) ≡ paint shape ink (firstCells course (course .long + 1)) (now (sheet .entry))) ⌝ }
+    ensures { λ _. ⌜ now (sheet .exit) ≡ paint shape ink (firstCells course (course .long + 1)) (now (sheet .entry)) ⌝ }
+    ensures { λ r. ⌜ toldDrawn r ≡ toldCells shape (firstCells course (course .long + 1)) ⌝ }
 {
     let first = first_n(shape, course);
     let past = past_n(shape, course);
     if past <= first {
-        return 0;
+        return sheet::undrawn(Reply::Counted(0));
     }
-    part_line(sheet, shape, ink, course, first, past);
-    past - first
+    let rectangle = part_line(sheet, shape, ink, course, first, past);
+    Drawn {
+        reply: Reply::Counted((past - first) as usize),
+        rectangle,
+    }
 }
 
 // Whether a spot stands for a cell within the limits.
@@ -309,30 +340,69 @@ fn is_moved(spot: Spot) -> bool
     ((49152 <= x) & (x <= 81919)) & ((49152 <= y) & (y <= 81919))
 }
 
+// The rectangle between two spots on the sheet.
+fn between(a: Spot, b: Spot) -> Rectangle
+    requires { ⌜ (65536 ≤ a .x) × (65536 ≤ a .y) × (65536 ≤ b .x) × (65536 ≤ b .y) ⌝ }
+    requires { ⌜ (a .x ≤ 131072) × (a .y ≤ 131072) × (b .x ≤ 131072) × (b .y ≤ 131072) ⌝ }
+    ensures { λ r. ⌜ r ≡ spanning a b ⌝ }
+{
+    Rectangle {
+        left: smaller(a.x, b.x) - 65536,
+        top: smaller(a.y, b.y) - 65536,
+        right: larger(a.x, b.x) - 65535,
+        bottom: larger(a.y, b.y) - 65535,
+    }
+}
+
 // Draws the line between the cells that two spots stand for.
-pub fn draw_between(sheet: &mut [u8], shape: Shape, ink: u8, from: Spot, to: Spot) -> Reply
+pub fn draw_between(sheet: &mut [u8], shape: Shape, ink: u8, from: Spot, to: Spot) -> Drawn
     ensures { λ r. ⌜ Draws (lineDrawing shape ink (unmovedCell from) (unmovedCell to))
-        (now (sheet .entry)) (told r) (now (sheet .exit)) ⌝ }
+        (now (sheet .entry)) (toldDrawn r) (now (sheet .exit)) ⌝ }
 {
     let tested = sheet::check(shape, sheet.len());
     if !tested.is_done() {
-        return tested;
+        return sheet::undrawn(tested);
     }
     if is_on(shape, from) & is_on(shape, to) {
         let course = course_of(from, to);
         whole_line(sheet, shape, ink, course);
-        return Reply::Counted(course.long as usize + 1);
+        return Drawn {
+            reply: Reply::Counted(course.long as usize + 1),
+            rectangle: between(from, to),
+        };
     }
     if !(is_moved(from) & is_moved(to)) {
-        return Reply::Refused(Refusal::Coordinate);
+        return sheet::undrawn(Reply::Refused(Refusal::Coordinate));
+    }
+    run(sheet, shape, ink, course_of(from, to))
+}
+
+// Draws the line between two spots on the sheet, where it has 2 to 128 cells, as most pieces of a curve have; whether it did.
+pub fn draw_short(sheet: &mut [u8], shape: Shape, ink: u8, from: Spot, to: Spot) -> bool
+    ensures { λ r. ⌜ now (sheet .exit) ≡ cond r (paint shape ink (onLine (unmovedCell from) (unmovedCell to)) (now (sheet .entry))) (now (sheet .entry)) ⌝ }
+    ensures { λ r. ⌜ (r ≡ true → (onSheet shape (unmovedCell from) ≡ true) × (onSheet shape (unmovedCell to) ≡ true)) ⌝ }
+{
+    let tested = sheet::check(shape, sheet.len());
+    if !tested.is_done() {
+        return false;
+    }
+    if !(is_on(shape, from) & is_on(shape, to)) {
+        return false;
     }
     let course = course_of(from, to);
-    Reply::Counted(run(sheet, shape, ink, course) as usize)
+    let long = course.long;
+    if !((0 < long) & (long < 128)) {
+        return false;
+    }
+    let at = byte_at(shape, course, 0, 0);
+    let slope = short_slope(long, course.short);
+    walk(sheet, shape, ink, course, 0, long + 1, slope, at);
+    true
 }
 
 // Draws the line from one end to the other.
-pub fn draw_line(sheet: &mut [u8], shape: Shape, ink: u8, from: Cell, to: Cell) -> Reply
-    ensures { λ r. ⌜ Draws (lineDrawing shape ink from to) (now (sheet .entry)) (told r) (now (sheet .exit)) ⌝ }
+pub fn draw_line(sheet: &mut [u8], shape: Shape, ink: u8, from: Cell, to: Cell) -> Drawn
+    ensures { λ r. ⌜ Draws (lineDrawing shape ink from to) (now (sheet .entry)) (toldDrawn r) (now (sheet .exit)) ⌝ }
 {
     draw_between(
         sheet,

@@ -15,6 +15,7 @@ mod pen;
 
 pub use draw::draw_between;
 pub use draw::draw_line;
+pub use draw::draw_short;
 pub use listing::list_line;
 pub use pen::Asked;
 pub use pen::Begun;

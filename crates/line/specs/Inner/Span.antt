@@ -1,9 +1,16 @@
 -- The part of a course that is on the sheet, as a range of n.
-use Prim.Native.Nat.{ℕ, _+_, _-_, _*_, _≤_, _<_}
+use Prim.Native.Nat.{ℕ, _+_, _-_, _*_, _≤_, _<_, min, max}
 use mathlib.Core.Bool.{Bool, true, cond}
+use mathlib.Core.List.{[], _∷_}
 use mathlib.Core.Logic.{_⊎_}
+use lib.IntN.{pos}
+use Rattle.sheet.specs.Sheet.{cellsOn}
+use Rattle.sheet.specs.Repaint.{boxOf}
+use Rattle.sheet.specs.Reply.{Answer, done, withBox}
+use Rattle.sheet.specs.declared.Cell.{Cell}
 use Rattle.sheet.specs.declared.Shape.{Shape}
 use Rattle.sheet.specs.declared.Spot.{Spot}
+use Rattle.sheet.specs.declared.repaint.Rectangle.{Rectangle}
 use Rattle.line.specs.Rule.{rise}
 use Rattle.line.specs.Inner.Course.{alongX, alongY, spotAt}
 use Rattle.line.specs.declared.Course.{Course}
@@ -65,3 +72,17 @@ aloneBy right steep pitch = cond steep pitch (cond right 1 18446744073709551615)
 
 abbrev pub bothBy : Bool → ℕ → ℕ
 bothBy right pitch = cond right (pitch + 1) (pitch - 1)
+
+-- the rectangle between two spots on the sheet
+unfoldable pub spanning : Spot → Spot → Rectangle
+spanning p q =
+    record {
+      left = min (p .x) (q .x) - 65536;
+      top = min (p .y) (q .y) - 65536;
+      right = max (p .x) (q .x) - 65535;
+      bottom = max (p .y) (q .y) - 65535;
+    }
+
+-- what is told of a line: the number of its cells on the sheet, and their rectangle
+abbrev pub toldCells : Shape → (Cell → Bool) → Answer
+toldCells k figure = withBox (done (pos (cellsOn k figure) ∷ [])) (boxOf k figure)

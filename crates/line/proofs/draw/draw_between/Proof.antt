@@ -1,6 +1,6 @@
 -- `line::draw::draw_between` meets its contract.
 use Prim.Native.Nat.{_+_, _-_}
-use mathlib.Core.Path.{_≡_, refl, ap₂, _∙_}
+use mathlib.Core.Path.{_≡_, refl, sym, ap₂, _∙_}
 use mathlib.Core.Bool.{true, _&&_}
 use native.Mathlib.Omega.{arith}
 use lib.ListN.{length}
@@ -12,12 +12,13 @@ use Rattle.sheet.specs.declared.Refusal.the-variants.{Coordinate}
 use Rattle.sheet.proofs.Draws.{refuses}
 use Rattle.sheet.proofs.Lent.{if-sheet, is-sheet, sheet-refused}
 use Rattle.sheet.proofs.Limits.{fits-sheet, LiftedCell}
-use Rattle.line.specs.Draw.{lineAnswer}
+use Rattle.line.specs.Draw.{lineAnswer, lineDrawing}
 use Rattle.line.specs.Inner.Course.{Runs}
 use Rattle.line.specs.Inner.Span.{On, Spans}
 use Rattle.line.proofs.Answers.{spot-lifted, on-limits, line-runs, line-done}
+use Rattle.line.proofs.Spanned.{told-cells}
 use Rattle.line.proofs.Walking.{counted}
-use Rattle.line.proofs.Whole.{course-whole}
+use Rattle.line.proofs.Whole.{course-whole, whole-box}
 use borrow.Author.Needs.{needs}
 use Rattle.line.proofs.draw.draw_between.Statement.{statement}
 use Rattle.line.proofs.draw.draw_between.Tie as tie
@@ -80,9 +81,15 @@ check-requires c κs = search needs
 is-done-requires : tie.Need-is-done-requires
 is-done-requires c κs = search needs
 
+undrawn-requires : tie.Need-undrawn-requires
+undrawn-requires c κs = search needs
+
 returns : tie.Need-returns
 unfolding lineAnswer
-returns c = let asked = c .before in sheet-refused _ _ _ _ _ _ refl (asked .before .check .ensures) (asked .is-done .ensures) (c .if1 .taken)
+returns c =
+    let asked = c .before .before in
+    let a = asked .before .before .before .args in
+    sheet-refused (lineDrawing (a .shape) (a .ink) (unmovedCell (a .from)) (unmovedCell (a .to))) _ _ _ _ _ _ refl (asked .before .check .ensures) (asked .is-done .ensures) (c .before .if1 .taken) (c .undrawn .ensures)
 
 is-on-requires : tie.Need-is-on-requires
 is-on-requires c κs = let k = lent c in (k .wide, k .high)
@@ -96,27 +103,40 @@ course-of-requires c κs = search needs
 whole-line-requires : tie.Need-whole-line-requires
 whole-line-requires c κs = let charted = c .before in (lent (charted .before .before .before .before), runs-on charted, spanned charted)
 
-cast-t16 : tie.Need-cast-t16
-cast-t16 c = search needs
+cast-t15 : tie.Need-cast-t15
+cast-t15 c = search needs
 
-add-t17 : tie.Need-add-t17
-add-t17 c = search needs
+add-t16 : tie.Need-add-t16
+add-t16 c = search needs
+
+between-requires : tie.Need-between-requires
+between-requires c κs =
+    let charted = c .before .before .before .before .before in
+    let o = ends-on (charted .before) in
+    let k = lent (charted .before .before .before .before) in (
+      (o .0 .left, o .0 .top, o .1 .left, o .1 .top),
+      (omega (arith, o .0 .right, k .wide), omega (arith, o .0 .bottom, k .high), omega (arith, o .1 .right, k .wide), omega (arith, o .1 .bottom, k .high)),
+    )
 
 same-length : tie.Need-same-length
 same-length c = search needs
 
 returns-2 : tie.Need-returns-2
 returns-2 c =
-    let called = c .before .before .before in
+    let called = c .before .before .before .before in
     let charted = called .before .before in
     let sized = charted .before .before .before .before in
     let a = sized .before .before .before .before .args in
+    let k = lent sized in
     let w = within (charted .before) in
+    let o = ends-on (charted .before) in
     let course = charted .course-of .result in
     let n : course .long + 1 ≡ course .long + 1 - 0 = omega arith in
+    let box = whole-box (a .shape) (k .wide) (k .high) course (a .from) (a .to) (charted .course-of .ensures) (runs-on charted) (o .0) (o .1) in
     line-done (a .shape) _ _ _ _ _ (spot-lifted (a .from) (w .0)) (spot-lifted (a .to) (w .1)) (charted .course-of .ensures)
     (a .ink) _ (now (a .sheet)) _ (fitted sized) (ap₂ _&&_ (w .0) (w .1))
-    (n ∙ counted (a .shape) (lent sized .disjoint) course (runs-on charted) 0 (course .long + 1) (spanned charted) (omega arith)) (called .whole-line .ensures)
+    (told-cells (a .shape) _ _ _ (n ∙ counted (a .shape) (k .disjoint) course (runs-on charted) 0 (course .long + 1) (spanned charted) (omega arith)) (c .between .ensures ∙ sym box))
+    (called .whole-line .ensures)
 
 is-moved-requires : tie.Need-is-moved-requires
 is-moved-requires c κs = search needs
@@ -124,24 +144,27 @@ is-moved-requires c κs = search needs
 is-moved-requires-2 : tie.Need-is-moved-requires-2
 is-moved-requires-2 c κs = search needs
 
+undrawn-requires-2 : tie.Need-undrawn-requires-2
+undrawn-requires-2 c κs = search needs
+
 returns-3 : tie.Need-returns-3
 unfolding lineAnswer
 returns-3 c =
-    refuses _ _ Coordinate (simp (if-sheet _ _ (fitted (c .before .before .before .before .before .before)), no _ _ (moved (c .before)) (c .if3 .taken)))
+    let tested = c .before in
+    let sized = tested .before .before .before .before .before .before in
+    let a = sized .before .before .before .before .args in
+    refuses (lineDrawing (a .shape) (a .ink) (unmovedCell (a .from)) (unmovedCell (a .to))) _ Coordinate _ (c .undrawn2 .ensures) (simp (if-sheet _ _ (fitted sized), no _ _ (moved (tested .before)) (tested .if3 .taken)))
 
 course-of-requires-2 : tie.Need-course-of-requires-2
 course-of-requires-2 c κs = search needs
 
 run-requires : tie.Need-run-requires
 run-requires c κs =
-    let charted = c .before in
-    let sized = charted .before .before .before .before .before .before .before in
+    let limited = c .before .before in
+    let sized = limited .before .before .before .before .before .before in
     let a = sized .before .before .before .before .args in
-    let l = lifted (charted .before) in
-    (lent sized, line-runs (a .shape) _ _ _ _ _ (l .0) (l .1) (charted .course-of2 .ensures))
-
-cast-t9 : tie.Need-cast-t9
-cast-t9 c = search needs
+    let l = lifted limited in
+    (lent sized, line-runs (a .shape) _ _ _ _ _ (l .0) (l .1) (c .course-of2 .ensures))
 
 same-length-2 : tie.Need-same-length-2
 same-length-2 c = search needs
@@ -149,13 +172,13 @@ same-length-2 c = search needs
 returns-4 : tie.Need-returns-4
 returns-4 c =
     let called = c .before .before in
-    let charted = called .before .before in
-    let limited = charted .before in
+    let charted = called .before in
+    let limited = charted .before .before in
     let sized = limited .before .before .before .before .before .before in
     let a = sized .before .before .before .before .args in
     let l = lifted limited in
     line-done (a .shape) _ _ _ _ _ (l .0) (l .1) (charted .course-of2 .ensures)
-    (a .ink) _ (now (a .sheet)) _ (fitted sized) (inside limited) (called .run .ensures .0) (called .run .ensures .1)
+    (a .ink) _ (now (a .sheet)) _ (fitted sized) (inside limited) (called .run .ensures .1) (called .run .ensures .0)
 
 pub draw-between-spec : {M : Type 1} → statement M
 draw-between-spec =
@@ -163,20 +186,22 @@ draw-between-spec =
     (tie.spec
     check-requires
     is-done-requires
+    undrawn-requires
     returns
     is-on-requires
     is-on-requires-2
     course-of-requires
     whole-line-requires
-    cast-t16
-    add-t17
+    cast-t15
+    add-t16
+    between-requires
     same-length
     returns-2
     is-moved-requires
     is-moved-requires-2
+    undrawn-requires-2
     returns-3
     course-of-requires-2
     run-requires
-    cast-t9
     same-length-2
     returns-4)
