@@ -1,6 +1,6 @@
 -- A ring that is drawn, and what its limits promise the inner functions.
 use Prim.Native.Nat.{ℕ, _≤_}
-use mathlib.Core.Path.{_≡_, subst, ap, _∙_}
+use mathlib.Core.Path.{_≡_, refl, sym, subst, ap, _∙_}
 use mathlib.Core.Logic.{_⊎_, inl, inr}
 use mathlib.Core.List.{List, []}
 use mathlib.Core.Bool.{true, _&&_, _||_}
@@ -11,29 +11,34 @@ use Rattle.laws.proofs.Apart.{apart-same, apart-zero}
 use Rattle.laws.proofs.Tests.{and-l, and-r, or-e, same, halves, from-true}
 use Rattle.sheet.specs.Chain.{wide, tall}
 use Rattle.sheet.specs.Sheet.{inLimits, isCell, paint, semiAxis, axes}
-use Rattle.sheet.specs.Reply.{done}
+use Rattle.sheet.specs.Repaint.{boxOf}
+use Rattle.sheet.specs.Reply.{done, withBox}
 use Rattle.sheet.specs.Drawing.{Draws}
 use Rattle.sheet.specs.Inner.{movedCell, unmovedCell, fits}
 use Rattle.sheet.specs.declared.Cell.{Cell}
 use Rattle.sheet.specs.declared.Shape.{Shape}
 use Rattle.sheet.specs.declared.Spot.{Spot}
+use Rattle.sheet.specs.declared.repaint.Rectangle.{Rectangle}
+use Rattle.sheet.proofs.Boxes.{box-only}
 use Rattle.sheet.proofs.Cells.{is-cell→, is-cell-refl}
 use Rattle.sheet.proofs.Draws.{draws}
 use Rattle.sheet.proofs.Lent.{if-sheet}
 use Rattle.sheet.proofs.Limits.{lifted-cell}
-use Rattle.ring.specs.Ring.{around, ellipseRule}
+use Rattle.ring.specs.Ring.{around, ellipseRule, onEllipse}
 use Rattle.ring.specs.Draw.{ellipseAnswer, ellipseDrawing}
 use Rattle.ring.specs.Inner.{Centred, Axis}
 use Rattle.ring.proofs.Columns.{ellipse-within, ellipse-zero}
 
 -- a ring about a centre within the limits, drawn on a sheet that fits
-pub ring-done : (k : Shape) (ink : ℕ) (c : Cell) (a b : ℕ) (s t : List ℕ) (p : Spot) → fits k (length s) ≡ true → inLimits c ≡ true
-    → axes a b ≡ true → p ≡ movedCell c → t ≡ paint k ink (around (unmovedCell p) (ellipseRule a b)) s
-    → Draws (ellipseDrawing k ink c a b) s (done []) t
+pub ring-done : (k : Shape) (ink : ℕ) (c : Cell) (a b : ℕ) (s t : List ℕ) (r : Rectangle) (p : Spot) → fits k (length s) ≡ true
+    → inLimits c ≡ true → axes a b ≡ true → p ≡ movedCell c → t ≡ paint k ink (around (unmovedCell p) (ellipseRule a b)) s
+    → r ≡ boxOf k (around (unmovedCell p) (ellipseRule a b)) → Draws (ellipseDrawing k ink c a b) s (withBox (done []) r) t
 unfolding ellipseAnswer
-ring-done k ink c a b s t p e f g h q =
-    draws _ s [] t (simp (if-sheet k (length s) e, f, g))
-    (q ∙ ap (λ (d : Cell). paint k ink (around d (ellipseRule a b)) s) (lifted-cell c p f h .stands))
+ring-done k ink c a b s t r p e f g h q u =
+    let at = lifted-cell c p f h .stands in
+    draws (ellipseDrawing k ink c a b) s (done []) r t refl (simp (if-sheet k (length s) e, f, g))
+    (q ∙ ap (λ (d : Cell). paint k ink (around d (ellipseRule a b)) s) at)
+    (u ∙ ap (λ (d : Cell). boxOf k (around d (ellipseRule a b))) at ∙ sym (box-only k ink (onEllipse c a b)))
 
 -- where both axes are 0 it is the centre alone
 pub centre-alone : (c d : Cell) → isCell c d ≡ around c (ellipseRule 0 0) d

@@ -30,8 +30,8 @@ both-fall a b x y z v c d p = elim (lt-or-ge y v) [ inl q ↦ absurd (not-down c
     not-down (inr c) (inl d) q = mixed b a y x v z c d q p
     not-down (inr c) (inr d) q = omega (arith, least-falls (b * b) (reach b a v) (reach b a y) z x (reach-falls b a y v (omega arith)) (d .least) (c .least))
 
-from-one : (a b : ℕ) → 1 ≤ a → 1 ≤ b → Stairs a b (ellipseRule a b)
-from-one a b h k =
+pub stairs-from-one : (a b : ℕ) → 1 ≤ a → 1 ≤ b → Stairs a b (ellipseRule a b)
+stairs-from-one a b h k =
     record {
       within = ellipse-within a b;
       column = λ x l. let o = column-has-one a b x h l in (o .one, in-column a b h k x (o .one) (record { within = l; least = nearest→ a b x l (o .one) (o .is) }));
@@ -53,4 +53,4 @@ pub ellipse-stairs : (a b : ℕ) → eqb a 0 ≡ eqb b 0 → Stairs a b (ellipse
 ellipse-stairs zero zero e = of-zero
 ellipse-stairs zero (suc b) e = absurd (true≢false (e ∙ eqb·suc-zero b))
 ellipse-stairs (suc a) zero e = absurd (true≢false (sym e ∙ eqb·suc-zero a))
-ellipse-stairs (suc a) (suc b) e = from-one (suc a) (suc b) (omega arith) (omega arith)
+ellipse-stairs (suc a) (suc b) e = stairs-from-one (suc a) (suc b) (omega arith) (omega arith)

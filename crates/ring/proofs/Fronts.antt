@@ -47,6 +47,27 @@ front-first e F = record { low = omega arith; high = F .high; before = λ n p q.
 pub front-last : {a b v l r x : ℕ} → x ≡ r → Front a b v l x x → Front a b v l r x
 front-last e F = record { low = F .low; high = omega arith; before = F .before; at = λ p. absurd (omega arith) }
 
+-- there is always one
+front-on-from : (a b v m r : ℕ) (t : Bool) → outside a b (2 * m) v ≡ t → m < r
+    → ((x : ℕ) × Front a b v (m + 1) r x) → (x : ℕ) × Front a b v m r x
+front-on-from a b v m r true f o F = (m, front-here a b v m r (omega arith) f)
+front-on-from a b v m r false f o F = (
+  F .0,
+  record {
+    low = omega (arith, F .1 .low);
+    high = F .1 .high;
+    before = λ i p q. elim (lt-or-ge m i) [ inl h ↦ F .1 .before i (omega arith) q | inr h ↦ let z : i ≡ m = omega arith in rw z f ];
+    at = F .1 .at;
+  },
+)
+
+pub front-some : (a b v l r : ℕ) → l ≤ r → (x : ℕ) × Front a b v l r x
+front-some a b v l r o = by (r - l) l (omega arith)
+  where
+    by : (n m : ℕ) → m + n ≡ r → (x : ℕ) × Front a b v m r x
+    by zero m e = (m, front-last (omega arith) (front-none a b v m))
+    by (suc n) m e = front-on-from a b v m r (outside a b (2 * m) v) refl (omega arith) (by n (m + 1) (omega arith))
+
 -- one halving
 pub front-halved : {a b v l r low high : ℕ} (m low′ high′ : ℕ) (t : Bool) → Front a b v l low low → Front a b v high r high → low ≤ m → m < high
     → t ≡ outside a b (2 * m) v → low′ ≡ cond t low (m + 1) → high′ ≡ cond t m high
@@ -104,7 +125,7 @@ module _ (a b y x : ℕ) where
   end-is r true e f = rw (sym e) f
   end-is r false e f = rw (sym e) (omega arith)
 
-  end-most : rowEnd a b y x ≤ x
+  pub end-most : rowEnd a b y x ≤ x
   end-most = elim end-at [ inl e ↦ omega (arith, e .0) | inr e ↦ omega (arith, e .0) ]
 
   end-least : x - 1 ≤ rowEnd a b y x
@@ -118,7 +139,7 @@ pub record Bounds (a b y l r low high : ℕ) : Type 0 where
   pub from : (c : ℕ) → l ≤ c → c < r → low ≤ c → c ≤ high → T (ellipseRule a b c y)
 
 -- a front is no further out than the ellipse
-front-most : {a b v l r x : ℕ} → 1 ≤ a → 1 ≤ v → l ≤ a → Front a b v l r x → x ≤ a
+pub front-most : {a b v l r x : ℕ} → 1 ≤ a → 1 ≤ v → l ≤ a → Front a b v l r x → x ≤ a
 front-most {a} {b} {v} {l} {r} {x} p q m F =
     elim (lt-or-ge a x) [
       | inl h ↦ absurd (in-or-out (all-beside a b (2 * a) v p q (omega arith)) (F .before a m h))

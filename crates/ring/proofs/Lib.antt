@@ -16,4 +16,5 @@ mod Fronts
 mod Tested
 mod Lying
 mod Rowed
+mod Breadth
 mod Answers

@@ -1,42 +1,46 @@
--- Painting a ring row by row.
+-- Painting a ring row by row, and the rectangle of its rows.
 use Prim.Native.Nat.{ℕ, zero, suc, _+_, _-_, _*_, _≤_, _<_, min}
 use mathlib.Core.Path.{_≡_, sym, subst, ap₂, _∙_}
 use mathlib.Core.Logic.{_⊎_, inl, inr, ⊎-elim}
 use mathlib.Core.List.{List}
-use mathlib.Core.Bool.{_&&_}
+use mathlib.Core.Bool.{Bool, false, _&&_}
 use native.Mathlib.Omega.{arith}
 use lib.Dec.{T, leb, ltb, leb→le, le→leb, ltb→lt, lt→ltb}
 use lib.IntN.{pos}
 use Rattle.laws.proofs.Apart.{apart}
 use Rattle.laws.proofs.Ints.{parts}
 use Rattle.laws.proofs.Products.{lt-or-ge}
-use Rattle.laws.proofs.Tests.{and-l, and-r, and-i}
+use Rattle.laws.proofs.Tests.{and-l, and-r, and-i, same, is-false}
 use Rattle.sheet.specs.Sheet.{paint, cellOf}
+use Rattle.sheet.specs.Repaint.{nothing, boxOf}
 use Rattle.sheet.specs.Inner.{unmoved, unmovedCell}
+use Rattle.sheet.specs.declared.Cell.{Cell}
 use Rattle.sheet.specs.declared.Shape.{Shape}
 use Rattle.sheet.specs.declared.Spot.{Spot}
-use Rattle.sheet.proofs.Paint.{paint-as}
+use Rattle.sheet.specs.declared.repaint.Rectangle.{Rectangle}
+use Rattle.sheet.proofs.Boxes.{box-as, box-none}
+use Rattle.sheet.proofs.Paint.{paint-as, paint-none}
 use Rattle.ring.specs.Ring.{around, ellipseRule}
-use Rattle.ring.specs.Inner.{Front, FrontOf, rowEnd, cells, off, band, inRing, inRows, Placed, Placing}
+use Rattle.ring.specs.Inner.{Front, FrontOf, rowEnd, cells, off, band, inRing, inRows, Lays, Placed, Placing}
 use Rattle.ring.specs.declared.Ring.{Ring}
 use Rattle.ring.proofs.Columns.{ellipse-within}
 use Rattle.ring.proofs.Fronts.{Bounds, row-bounds, middle-bounds, front-risen, front-fallen}
-use Rattle.ring.proofs.Tested.{cells-as, cells-none, cells-then, band→, →band}
+use Rattle.ring.proofs.Tested.{lays-none, lays-then, band→, →band}
 
 -- the test of a ring's rows, both ways
 module _ (g : Ring) (l r i j : ℕ) where
-  rows→ : T (inRows g l r i j) → (l ≤ j) × (j < r) × T (inRing g i j)
+  pub rows→ : T (inRows g l r i j) → (l ≤ j) × (j < r) × T (inRing g i j)
   unfolding inRows
   rows→ t =
       let u = and-l (leb l j && ltb j r) (inRing g i j) t in
       (leb→le l j (and-l (leb l j) (ltb j r) u), ltb→lt j r (and-r (leb l j) (ltb j r) u), and-r (leb l j && ltb j r) (inRing g i j) t)
 
-  →rows : l ≤ j → j < r → T (inRing g i j) → T (inRows g l r i j)
+  pub →rows : l ≤ j → j < r → T (inRing g i j) → T (inRows g l r i j)
   unfolding inRows
   →rows p q t = and-i (leb l j && ltb j r) (inRing g i j) (and-i (leb l j) (ltb j r) (le→leb l j p) (lt→ltb j r q)) t
 
 -- a row above or below the middle is bounded by its two fronts
-bounds-at : (a b y l r x z : ℕ) → 1 ≤ a → 1 ≤ b → 1 ≤ y → y ≤ b → l ≤ a → r ≤ a + 1
+pub bounds-at : (a b y l r x z : ℕ) → 1 ≤ a → 1 ≤ b → 1 ≤ y → y ≤ b → l ≤ a → r ≤ a + 1
     → Front a b (2 * y + 1) l r x → Front a b (2 * y - 1) l r z → Bounds a b y l r (rowEnd a b y x) (rowEnd a b y z)
 bounds-at a b zero l r x z p q h k m n F G = absurd (omega arith)
 bounds-at a b (suc j) l r x z p q h k m n F G =
@@ -44,11 +48,11 @@ bounds-at a b (suc j) l r x z p q h k m n F G =
     row-bounds a b j l r x z p q k m n F (rw e at G)
 
 -- the rows of a ring from `from` on are inked as far as before `row`, where its front at the height v / 2 is x
-pub record Drawn (k : Shape) (ink : ℕ) (g : Ring) (from to v : ℕ) (s t : List ℕ) (x row : ℕ) : Type 0 where
+pub record Inking (k : Shape) (ink : ℕ) (g : Ring) (from to v : ℕ) (s t : List ℕ) (b c : Rectangle) (x row : ℕ) : Type 0 where
   pub order : from ≤ row
   pub within : row ≤ to
   pub front : FrontOf g v x
-  pub painted : t ≡ paint k ink (cells (inRows g from row)) s
+  pub lays : Lays k ink (g .whole) (inRows g from row) s t b c
 
 -- what is sought from one front finds the next, and the two bound the row between them
 pub record Bounded (g : Ring) (row low high v x : ℕ) : Type 0 where
@@ -94,17 +98,17 @@ middle-row k g P x h F =
     rw e (middle-bounds (g .a) (g .b) (g .least) (g .past) x (P .axis-a .0) (P .axis-b .0) (omega (arith, P .some, P .most)) F)
 
 -- no row yet
-pub rows-none : (k : Shape) (ink : ℕ) (g : Ring) (l : ℕ) (s : List ℕ) → s ≡ paint k ink (cells (inRows g l l)) s
-rows-none k ink g l s = cells-none k ink (inRows g l l) s (λ i j a b t. let z = rows→ g l l i j t in omega arith)
+pub rows-none : (k : Shape) (ink : ℕ) (w : Bool) (g : Ring) (l : ℕ) (s : List ℕ) (b : Rectangle) → Lays k ink w (inRows g l l) s s b b
+rows-none k ink w g l s b = lays-none k ink w (inRows g l l) s b (λ i j x y t. let z = rows→ g l l i j t in omega arith)
 
 -- one row more, and two parts
 module _ (k : Shape) (ink : ℕ) (g : Ring) where
-  pub row-more : Placed k g → (l row low high : ℕ) (s t u : List ℕ) → l ≤ row
+  pub row-more : Placed k g → (l row low high : ℕ) (s t u : List ℕ) (b c d : Rectangle) → l ≤ row
       → Bounds (g .a) (g .b) (off (g .y) row) (g .least) (g .past) low high
-      → t ≡ paint k ink (cells (inRows g l row)) s → u ≡ paint k ink (cells (band row (g .x) low high)) t
-      → u ≡ paint k ink (cells (inRows g l (row + 1))) s
-  row-more P l row low high s t u o B =
-      cells-then k ink (inRows g l row) (band row (g .x) low high) (inRows g l (row + 1)) s t u
+      → Lays k ink (g .whole) (inRows g l row) s t b c → Lays k ink (g .whole) (band row (g .x) low high) t u c d
+      → Lays k ink (g .whole) (inRows g l (row + 1)) s u b d
+  row-more P l row low high s t u b c d o B =
+      lays-then k ink (g .whole) (inRows g l row) (band row (g .x) low high) (inRows g l (row + 1)) s t u b c d
       (λ i j a b w. let z = rows→ g l row i j w in →rows g l (row + 1) i j (z .0) (omega arith) (z .2))
       (λ i j a b w. let z = band→ row (g .x) low high i j w in →rows g l (row + 1) i j (omega arith) (omega arith) (in-row i j a (z .0) (z .1) (z .2)))
       (λ i j a b w.
@@ -127,20 +131,21 @@ module _ (k : Shape) (ink : ℕ) (g : Ring) where
           let z = B .to (off (g .x) i) (P .near i a) h (subst (λ (n : ℕ). T (ellipseRule (g .a) (g .b) (off (g .x) i) (off (g .y) n))) e t) in
           →band row (g .x) low high i j e (z .0) (z .1)
 
-  pub drawn-more : Placed k g → {from to v w : ℕ} {s t u : List ℕ} {x z row low high : ℕ} → row < to → Bounded g row low high w z
-      → Drawn k ink g from to v s t x row → u ≡ paint k ink (cells (band row (g .x) low high)) t → Drawn k ink g from to w s u z (row + 1)
-  drawn-more P o N D e =
+  pub inked-more : Placed k g → {from to v w : ℕ} {s t u : List ℕ} {b c d : Rectangle} {x z row low high : ℕ} → row < to
+      → Bounded g row low high w z → Inking k ink g from to v s t b c x row → Lays k ink (g .whole) (band row (g .x) low high) t u c d
+      → Inking k ink g from to w s u b d z (row + 1)
+  inked-more P o N D e =
       record {
         order = omega (arith, D .order);
         within = omega arith;
         front = N .next;
-        painted = row-more P _ _ _ _ _ _ _ (D .order) (N .bounds) (D .painted) e;
+        lays = row-more P _ _ _ _ _ _ _ _ _ _ (D .order) (N .bounds) (D .lays) e;
       }
 
-  pub rows-then : (l m r : ℕ) (s t u : List ℕ) → l ≤ m → m ≤ r
-      → t ≡ paint k ink (cells (inRows g l m)) s → u ≡ paint k ink (cells (inRows g m r)) t → u ≡ paint k ink (cells (inRows g l r)) s
-  rows-then l m r s t u o p =
-      cells-then k ink (inRows g l m) (inRows g m r) (inRows g l r) s t u
+  pub rows-then : (w : Bool) (l m r : ℕ) (s t u : List ℕ) (b c d : Rectangle) → l ≤ m → m ≤ r → Lays k ink w (inRows g l m) s t b c
+      → Lays k ink w (inRows g m r) t u c d → Lays k ink w (inRows g l r) s u b d
+  rows-then w l m r s t u b c d o p =
+      lays-then k ink w (inRows g l m) (inRows g m r) (inRows g l r) s t u b c d
       (λ i j a b w. let z = rows→ g l m i j w in →rows g l r i j (z .0) (omega arith) (z .2))
       (λ i j a b w. let z = rows→ g m r i j w in →rows g l r i j (omega arith) (z .1) (z .2))
       (λ i j a b w.
@@ -151,16 +156,27 @@ module _ (k : Shape) (ink : ℕ) (g : Ring) where
       ])
 
 -- a ring on a sheet, and its rows
-module _ (k : Shape) (ink : ℕ) (p : Spot) (a b : ℕ) (g : Ring) (N : Placing k p a b g) (s t : List ℕ) where
+module _ (k : Shape) (ink : ℕ) (p : Spot) (a b : ℕ) (g : Ring) (N : Placing k p a b g) (s t : List ℕ) (r : Rectangle) where
   away-is : (m i : ℕ) → apart (unmoved m) (pos i) ≡ off m i
   away-is m i = simp parts (omega arith)
 
-  ring-at : (i j : ℕ) → inRing g i j ≡ around (unmovedCell p) (ellipseRule a b) (cellOf i j)
+  abbrev figure : Cell → Bool
+  figure = around (unmovedCell p) (ellipseRule a b)
+
+  ring-at : (i j : ℕ) → inRing g i j ≡ figure (cellOf i j)
   unfolding around
   ring-at i j = rw (N .of-a, N .of-b, N .at-x, N .at-y) (ap₂ (ellipseRule a b) (sym (away-is (p .x) i)) (sym (away-is (p .y) j)))
 
-  ring-is : t ≡ paint k ink (cells (inRing g)) s → t ≡ paint k ink (around (unmovedCell p) (ellipseRule a b)) s
-  ring-is e = e ∙ paint-as k ink (cells (inRing g)) (around (unmovedCell p) (ellipseRule a b)) s (λ i j _ _. ring-at i j)
+  -- it is painted, and the rectangle is its
+  abbrev Shown : Type 0
+  Shown = (t ≡ paint k ink figure s) × (r ≡ boxOf k figure)
+
+  -- none of it is on the sheet
+  ring-none : ((i j : ℕ) → i < k .width → j < k .height → T (inRing g i j) → ⊥) → t ≡ s → r ≡ nothing → Shown
+  ring-none f d q = (d ∙ sym (paint-none k ink figure s off-it), q ∙ sym (box-none k figure off-it))
+    where
+      off-it : (i j : ℕ) → i < k .width → j < k .height → figure (cellOf i j) ≡ false
+      off-it i j x y = sym (ring-at i j) ∙ is-false (inRing g i j) (f i j x y)
 
   -- a cell's row is no further from the middle than the ring's first and last
   near-middle : (i j : ℕ) → T (inRing g i j) → (g .y ≤ j + 65536 + b) × (j + 65536 ≤ g .y + b)
@@ -172,22 +188,26 @@ module _ (k : Shape) (ink : ℕ) (p : Spot) (a b : ℕ) (g : Ring) (N : Placing 
     in-rows : (i j : ℕ) → j < k .height → T (inRing g i j) → (from ≤ j) × (j < to)
     in-rows i j h u = let w = near-middle i j u in (omega arith, omega arith)
 
-    pub rows-are : t ≡ paint k ink (cells (inRows g from to)) s → t ≡ paint k ink (around (unmovedCell p) (ellipseRule a b)) s
-    rows-are d =
-        ring-is
-        (cells-as k ink (inRows g from to) (inRing g) s t
-        (λ i j _ _ u. rows→ g from to i j u .2)
-        (λ i j _ h u. let w = in-rows i j h u in →rows g from to i j (w .0) (w .1) u)
-        d)
+    all-rows : (i j : ℕ) → i < k .width → j < k .height → inRows g from to i j ≡ figure (cellOf i j)
+    all-rows i j _ h =
+        same (inRows g from to i j) (inRing g i j) (λ u. rows→ g from to i j u .2)
+        (λ u. let w = in-rows i j h u in →rows g from to i j (w .0) (w .1) u)
+        ∙ ring-at i j
+
+    pub rows-are : t ≡ paint k ink (cells (inRows g from to)) s → r ≡ boxOf k (cells (inRows g from to)) → Shown
+    rows-are d q = (
+      d ∙ paint-as k ink (cells (inRows g from to)) figure s all-rows,
+      q ∙ box-as k (cells (inRows g from to)) figure all-rows,
+    )
 
   -- no column of it is on the sheet, or no row
-  pub no-column : t ≡ s → a < g .least → t ≡ paint k ink (around (unmovedCell p) (ellipseRule a b)) s
-  no-column q h =
-      ring-is
-      (q
-      ∙ cells-none k ink (inRing g) s (λ i j l _ u.
-      omega (arith, N .of-a, N .misses (omega (arith, N .of-a)) i l, ellipse-within (g .a) (g .b) (off (g .x) i) (off (g .y) j) u .0)))
+  pub no-column : t ≡ s → r ≡ nothing → a < g .least → Shown
+  no-column d q h =
+      ring-none
+      (λ i j l _ u.
+      omega (arith, N .of-a, N .misses (omega (arith, N .of-a)) i l, ellipse-within (g .a) (g .b) (off (g .x) i) (off (g .y) j) u .0))
+      d q
 
-  pub no-row : (from to : ℕ) → from ≡ g .y - b - 65536 → to ≡ min (g .y + b + 1 - 65536) (k .height) → t ≡ s → to ≤ from
-      → t ≡ paint k ink (around (unmovedCell p) (ellipseRule a b)) s
-  no-row from to e f q h = ring-is (q ∙ cells-none k ink (inRing g) s (λ i j _ l u. omega (arith, in-rows from to e f i j l u)))
+  pub no-row : (from to : ℕ) → from ≡ g .y - b - 65536 → to ≡ min (g .y + b + 1 - 65536) (k .height) → t ≡ s → r ≡ nothing → to ≤ from
+      → Shown
+  no-row from to e f d q h = ring-none (λ i j _ l u. omega (arith, in-rows from to e f i j l u)) d q

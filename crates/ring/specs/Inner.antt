@@ -2,13 +2,17 @@
 use Prim.Native.Nat.{ℕ, _+_, _-_, _*_, _≤_, _<_}
 use mathlib.Core.Path.{_≡_}
 use mathlib.Core.Logic.{_⊎_}
+use mathlib.Core.List.{List}
 use mathlib.Core.Bool.{Bool, true, false, cond, _&&_}
 use lib.Dec.{leb, ltb, eqb}
 use lib.IntN.{natAbs}
+use Rattle.sheet.specs.Sheet.{paint}
+use Rattle.sheet.specs.Repaint.{join, boxOf}
 use Rattle.sheet.specs.Inner.{Moved}
 use Rattle.sheet.specs.declared.Cell.{Cell}
 use Rattle.sheet.specs.declared.Shape.{Shape}
 use Rattle.sheet.specs.declared.Spot.{Spot}
+use Rattle.sheet.specs.declared.repaint.Rectangle.{Rectangle}
 use Rattle.ring.specs.Ring.{ellipseRule}
 use Rattle.ring.specs.declared.Ring.{Ring}
 
@@ -72,6 +76,18 @@ inRing g i j = ellipseRule (g .a) (g .b) (off (g .x) i) (off (g .y) j)
 
 unfoldable pub inRows : Ring → ℕ → ℕ → ℕ → ℕ → Bool
 inRows g l r i j = (leb l j && ltb j r) && inRing g i j
+
+-- the rectangles of some columns of a row, and of rows with the columns that are at most h off a moved coordinate
+abbrev pub strip : ℕ → ℕ → ℕ → Rectangle
+strip row l r = record { left = l; top = row; right = r; bottom = row + 1 }
+
+abbrev pub about : ℕ → ℕ → ℕ → ℕ → Rectangle
+about m h l r = record { left = m - 65536 - h; top = l; right = m - 65536 + h + 1; bottom = r }
+
+-- cells set in an ink; and r is q with these in it, where q begins as a rectangle of a sheet may, but a whole ring, w, gathers none
+pub record Lays (k : Shape) (ink : ℕ) (w : Bool) (test : ℕ → ℕ → Bool) (s t : List ℕ) (q r : Rectangle) : Type 0 where
+  pub painted : t ≡ paint k ink (cells test) s
+  pub gathered : w ≡ false → q .left ≤ 4096 → q .top ≤ 4096 → r ≡ join q (boxOf k (cells test))
 
 -- a ring as it lies on a sheet, with some of its columns on it
 pub record Placed (k : Shape) (g : Ring) : Type 0 where

@@ -3,7 +3,8 @@ ghost use mathlib.Core.Path.{_≡_};
 ghost use mathlib.Core.Bool.{true};
 ghost use Prim.Native.Nat.{_-_, _≤_, _<_, min, max};
 ghost use Rattle.sheet.specs.Sheet.{paint, axes};
-ghost use Rattle.sheet.specs.Reply.{told};
+ghost use Rattle.sheet.specs.Repaint.{boxOf};
+ghost use Rattle.sheet.specs.Reply.{toldDrawn};
 ghost use Rattle.sheet.specs.Drawing.{Draws};
 ghost use Rattle.sheet.specs.Inner.{unmovedCell, Sheet};
 ghost use Rattle.ring.specs.Ring.{around, ellipseRule};
@@ -17,6 +18,8 @@ mod rows;
 use rows::rows_about;
 use rows::rows_below;
 use sheet::Cell;
+use sheet::Drawn;
+use sheet::Rectangle;
 use sheet::Refusal;
 use sheet::Reply;
 use sheet::Shape;
@@ -84,10 +87,18 @@ fn placed(shape: Shape, centre: Spot, a: usize, b: usize) -> Ring
     }
 }
 
-// Inks the ellipse about the centre: its rows on the sheet.
-fn ellipse_on(sheet: &mut [u8], shape: Shape, ink: u8, centre: Spot, a: usize, b: usize)
+// Inks the ellipse about the centre: its rows on the sheet. Answers the rectangle of them.
+fn ellipse_on(
+    sheet: &mut [u8],
+    shape: Shape,
+    ink: u8,
+    centre: Spot,
+    a: usize,
+    b: usize,
+) -> Rectangle
     requires { ⌜ Sheet shape (now sheet) × Centred centre × Axis a × Axis b ⌝ }
     ensures { λ _. ⌜ now (sheet .exit) ≡ paint shape ink (around (unmovedCell centre) (ellipseRule a b)) (now (sheet .entry)) ⌝ }
+    ensures { λ r. ⌜ r ≡ boxOf shape (around (unmovedCell centre) (ellipseRule a b)) ⌝ }
 {
     let ring = placed(shape, centre, a, b);
     let y = ring.y;
@@ -95,51 +106,47 @@ fn ellipse_on(sheet: &mut [u8], shape: Shape, ink: u8, centre: Spot, a: usize, b
     let from = less(y - b, 65536);
     let to = smaller(less(y + b + 1, 65536), height);
     if a < ring.least {
-        return;
+        return Rectangle::none();
     }
     if to <= from {
-        return;
+        return Rectangle::none();
     }
     if y < 65536 {
-        rows_below(sheet, shape, ink, ring, to);
-        return;
+        return rows_below(sheet, shape, ink, ring, to);
     }
-    rows_about(sheet, shape, ink, ring, from, to);
+    rows_about(sheet, shape, ink, ring, from, to)
 }
 
-// Inks the ring about the centre: its centre alone, where both axes are 0.
-fn ring_on(sheet: &mut [u8], shape: Shape, ink: u8, centre: Spot, a: usize, b: usize)
+// Inks the ring about the centre: its centre alone, where both axes are 0. Answers its rectangle.
+fn ring_on(sheet: &mut [u8], shape: Shape, ink: u8, centre: Spot, a: usize, b: usize) -> Rectangle
     requires { ⌜ Sheet shape (now sheet) × Centred centre × (axes a b ≡ true) ⌝ }
     ensures { λ _. ⌜ now (sheet .exit) ≡ paint shape ink (around (unmovedCell centre) (ellipseRule a b)) (now (sheet .entry)) ⌝ }
+    ensures { λ r. ⌜ r ≡ boxOf shape (around (unmovedCell centre) (ellipseRule a b)) ⌝ }
 {
     if a == 0 {
         sheet::ink_at(sheet, shape, ink, centre);
-    } else {
-        ellipse_on(sheet, shape, ink, centre, a, b);
+        return sheet::join_at(shape, centre, Rectangle::none());
     }
+    ellipse_on(sheet, shape, ink, centre, a, b)
 }
 
 // Draws the ellipse of semi-axes a and b about the centre; of equal axes it is the circle of that radius.
-pub fn draw_ellipse(sheet: &mut [u8], shape: Shape, ink: u8, centre: Cell, a: u32, b: u32) -> Reply
-    ensures { λ r. ⌜ Draws (ellipseDrawing shape ink centre a b) (now (sheet .entry)) (told r) (now (sheet .exit)) ⌝ }
+pub fn draw_ellipse(sheet: &mut [u8], shape: Shape, ink: u8, centre: Cell, a: u32, b: u32) -> Drawn
+    ensures { λ r. ⌜ Draws (ellipseDrawing shape ink centre a b) (now (sheet .entry)) (toldDrawn r) (now (sheet .exit)) ⌝ }
 {
     let tested = sheet::check(shape, sheet.len());
     if !tested.is_done() {
-        return tested;
+        return sheet::undrawn(tested);
     }
     if !sheet::in_limits(centre) {
-        return Reply::Refused(Refusal::Coordinate);
+        return sheet::undrawn(Reply::Refused(Refusal::Coordinate));
     }
     if !sheet::are_axes(a, b) {
-        return Reply::Refused(Refusal::Radius);
+        return sheet::undrawn(Reply::Refused(Refusal::Radius));
     }
-    ring_on(
-        sheet,
-        shape,
-        ink,
-        sheet::lift_cell(centre),
-        a as usize,
-        b as usize,
-    );
-    Reply::Done
+    let middle = sheet::lift_cell(centre);
+    Drawn {
+        reply: Reply::Done,
+        rectangle: ring_on(sheet, shape, ink, middle, a as usize, b as usize),
+    }
 }

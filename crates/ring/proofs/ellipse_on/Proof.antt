@@ -37,20 +37,27 @@ less-requires-2 c κs = search needs
 smaller-requires : tie.Need-smaller-requires
 smaller-requires c κs = search needs
 
+none-requires : tie.Need-none-requires
+none-requires c κs = search needs
+
 returns : tie.Need-returns
 returns c =
-    let cut = c .before .before in
-    let at-placed = cut .before .before .before .before in
-    let a = at-placed .before .before .args in
-    no-column (a .shape) (a .ink) (a .centre) (a .a) (a .b) _ (at-placed .placed .ensures) _ _ refl (c .if1 .taken)
-
-returns-2 : tie.Need-returns-2
-returns-2 c =
     let cut = c .before .before .before in
     let at-placed = cut .before .before .before .before in
     let a = at-placed .before .before .args in
-    no-row (a .shape) (a .ink) (a .centre) (a .a) (a .b) _ (at-placed .placed .ensures) _ _ _ _
-    (cut .before .before .less .ensures) (to-is cut) refl (c .if2 .taken)
+    no-column (a .shape) (a .ink) (a .centre) (a .a) (a .b) _ (at-placed .placed .ensures) _ _ _ refl
+    (c .none .ensures) (c .before .if1 .taken)
+
+none-requires-2 : tie.Need-none-requires-2
+none-requires-2 c κs = search needs
+
+returns-2 : tie.Need-returns-2
+returns-2 c =
+    let cut = c .before .before .before .before in
+    let at-placed = cut .before .before .before .before in
+    let a = at-placed .before .before .args in
+    no-row (a .shape) (a .ink) (a .centre) (a .a) (a .b) _ (at-placed .placed .ensures) _ _ _ _ _
+    (cut .before .before .less .ensures) (to-is cut) refl (c .none2 .ensures) (c .before .if2 .taken)
 
 rows-below-requires : tie.Need-rows-below-requires
 rows-below-requires c κs =
@@ -75,8 +82,8 @@ returns-3 c =
     let cut = called .before .before .before .before .before .before in
     let at-placed = cut .before .before .before .before in
     let a = at-placed .before .before .args in
-    rows-are (a .shape) (a .ink) (a .centre) (a .a) (a .b) _ (at-placed .placed .ensures) _ _ 0 _
-    (omega (arith, called .before .before .if3 .taken)) (to-is cut) (called .rows-below .ensures)
+    rows-are (a .shape) (a .ink) (a .centre) (a .a) (a .b) _ (at-placed .placed .ensures) _ _ _ 0 _
+    (omega (arith, called .before .before .if3 .taken)) (to-is cut) (called .rows-below .ensures .0) (called .rows-below .ensures .1)
 
 rows-about-requires : tie.Need-rows-about-requires
 rows-about-requires c κs =
@@ -107,8 +114,8 @@ returns-4 c =
     let cut = called .before .before .before .before .before .before in
     let at-placed = cut .before .before .before .before in
     let a = at-placed .before .before .args in
-    rows-are (a .shape) (a .ink) (a .centre) (a .a) (a .b) _ (at-placed .placed .ensures) _ _ _ _
-    (cut .before .before .less .ensures) (to-is cut) (called .rows-about .ensures)
+    rows-are (a .shape) (a .ink) (a .centre) (a .a) (a .b) _ (at-placed .placed .ensures) _ _ _ _ _
+    (cut .before .before .less .ensures) (to-is cut) (called .rows-about .ensures .0) (called .rows-about .ensures .1)
 
 pub ellipse-on-spec : {M : Type 1} → statement M
 ellipse-on-spec =
@@ -122,7 +129,9 @@ ellipse-on-spec =
     add-less-2
     less-requires-2
     smaller-requires
+    none-requires
     returns
+    none-requires-2
     returns-2
     rows-below-requires
     same-length
