@@ -8,11 +8,14 @@ use native.Mathlib.Omega.{arith}
 use lib.IntN.{ℤ}
 use lib.ListN.{length, length-map}
 use Rattle.sheet.specs.Sheet.{coordinate, inLimits, split, paint}
-use Rattle.sheet.specs.Reply.{done}
+use Rattle.sheet.specs.Repaint.{boxOf}
+use Rattle.sheet.specs.Reply.{done, withBox}
 use Rattle.sheet.specs.Drawing.{Draws}
 use Rattle.sheet.specs.Inner.{unmoved, unmovedCell, fits}
 use Rattle.sheet.specs.declared.Cell.{Cell}
 use Rattle.sheet.specs.declared.Shape.{Shape}
+use Rattle.sheet.specs.declared.repaint.Rectangle.{Rectangle}
+use Rattle.sheet.proofs.Boxes.{box-only}
 use Rattle.sheet.proofs.Draws.{draws}
 use Rattle.sheet.proofs.Lent.{if-sheet}
 use Rattle.sheet.proofs.Limits.{limit-high, limits-x, limits-y, stands-parts}
@@ -80,7 +83,8 @@ points-few (Three a b c) = omega arith
 points-few (Four a b c d) = omega arith
 
 -- a curve within the limits, drawn on a sheet that fits
-pub curve-done : (k : Shape) (ink : ℕ) (ps : List Cell) (s : ℕ) (sheet t : List ℕ) → fits k (length sheet) ≡ true → allInLimits ps ≡ true
-    → split s ≡ true → t ≡ paint k ink (onCurve ps s) sheet → Draws (curveDrawing k ink ps s) sheet (done []) t
+pub curve-done : (k : Shape) (ink : ℕ) (ps : List Cell) (s : ℕ) (sheet t : List ℕ) (r : Rectangle) → fits k (length sheet) ≡ true → allInLimits ps ≡ true
+    → split s ≡ true → t ≡ paint k ink (onCurve ps s) sheet → r ≡ boxOf k (onCurve ps s) → Draws (curveDrawing k ink ps s) sheet (withBox (done []) r) t
 unfolding curveAnswer
-curve-done k ink ps s sheet t e f g u = draws _ sheet [] t (simp (if-sheet k (length sheet) e, f, g)) u
+curve-done k ink ps s sheet t r e f g u v =
+    draws (curveDrawing k ink ps s) sheet (done []) r t refl (simp (if-sheet k (length sheet) e, f, g)) u (v ∙ sym (box-only k ink (onCurve ps s)))

@@ -1,12 +1,17 @@
 -- The points on the moved plane, as the code finds them: by a sum of powers of i, and its differences.
 use Prim.Native.Nat.{ℕ, _+_, _-_, _*_, _/_, _%_, _^_, _≤_, _<_}
 use mathlib.Core.Path.{_≡_}
+use mathlib.Core.Bool.{Bool, true, _||_}
 use mathlib.Core.List.{List, [], _∷_, map}
 use lib.IntN.{ℤ}
 use lib.ListN.{length}
+use Rattle.sheet.specs.Sheet.{paint}
+use Rattle.sheet.specs.Repaint.{boxOf}
 use Rattle.sheet.specs.Inner.{unmoved}
 use Rattle.sheet.specs.declared.Cell.{Cell}
+use Rattle.sheet.specs.declared.Shape.{Shape}
 use Rattle.sheet.specs.declared.Spot.{Spot}
+use Rattle.sheet.specs.declared.repaint.Rectangle.{Rectangle}
 use Rattle.curve.specs.Rule.{coordinateAt}
 use Rattle.curve.specs.declared.Controls.{Controls}
 use Rattle.curve.specs.declared.Controls.the-variants.{Three, Four}
@@ -101,3 +106,8 @@ spotOf w = record { x = w .x .value / 2 ^ w .shift; y = w .y .value / 2 ^ w .shi
 pub record Divides (w : Walk) (shift : ℕ) : Type 0 where
   pub whole : shift < 64
   pub fits : w .value / 2 ^ shift < 2 ^ 32
+
+-- what a line adds to what is drawn in one ink, the line's first point included, and to its rectangle
+pub record Adds (k : Shape) (ink : ℕ) (from : Cell) (line : Cell → Bool) (s t : List ℕ) (q r : Rectangle) : Type 0 where
+  pub painted : (f : Cell → Bool) (before : List ℕ) → f from ≡ true → s ≡ paint k ink f before → t ≡ paint k ink (λ (c : Cell). f c || line c) before
+  pub boxed : (f : Cell → Bool) → f from ≡ true → q ≡ boxOf k f → r ≡ boxOf k (λ (c : Cell). f c || line c)

@@ -5,14 +5,17 @@ ghost use lib.Dec.{leb};
 ghost use mathlib.Core.List.{[], _∷_};
 ghost use Prim.Native.Nat.{_+_, _/_, _^_, _≤_, _<_};
 ghost use Rattle.sheet.specs.Sheet.{inLimits, paint};
-ghost use Rattle.sheet.specs.Reply.{told};
+ghost use Rattle.sheet.specs.Repaint.{boxOf};
+ghost use Rattle.sheet.specs.Reply.{toldDrawn};
 ghost use Rattle.sheet.specs.Drawing.{Draws};
 ghost use Rattle.sheet.specs.Inner.{Moved, Sheet, unmoved, unmovedCell};
 ghost use Rattle.line.specs.Rule.{onLine};
 ghost use Rattle.curve.specs.Rule.{onCurve};
 ghost use Rattle.curve.specs.Draw.{allInLimits, curveDrawing};
-ghost use Rattle.curve.specs.Inner.{pointsOf, changesAt, Little, Small, Walks, nextWalk, Follows, nextWay, Leads, Divides, spotOf};
+ghost use Rattle.curve.specs.Inner.{pointsOf, changesAt, Little, Small, Walks, nextWalk, Follows, nextWay, Leads, Divides, spotOf, Adds};
 use sheet::Cell;
+use sheet::Drawn;
+use sheet::Rectangle;
 use sheet::Refusal;
 use sheet::Reply;
 use sheet::Shape;
@@ -237,36 +240,52 @@ fn near(a: u32, b: u32) -> bool
     (a <= b + 1) & (b <= a + 1)
 }
 
-// Draws the line between two points within the limits; where they touch, or are one, it is just these.
-fn piece(sheet: &mut [u8], shape: Shape, ink: u8, from: Spot, to: Spot)
+// Draws the line between two points within the limits, of which the first is drawn: where they touch, or are one, the second. Answers the
+// rectangle with the line in it; between two points on the sheet, that is with the second.
+fn piece(
+    sheet: &mut [u8],
+    shape: Shape,
+    ink: u8,
+    from: Spot,
+    to: Spot,
+    rectangle: Rectangle,
+) -> Rectangle
     requires { ⌜ Sheet shape (now sheet) ⌝ }
     requires { ⌜ (inLimits (unmovedCell from) ≡ true) × (inLimits (unmovedCell to) ≡ true) ⌝ }
-    ensures { λ r. ⌜ now (sheet .exit) ≡ paint shape ink (onLine (unmovedCell from) (unmovedCell to)) (now (sheet .entry)) ⌝ }
+    ensures { λ r. ⌜ Adds shape ink (unmovedCell from) (onLine (unmovedCell from) (unmovedCell to))
+        (now (sheet .entry)) (now (sheet .exit)) rectangle r ⌝ }
 {
     if near(from.x, to.x) & near(from.y, to.y) {
-        sheet::ink_at(sheet, shape, ink, from);
         sheet::ink_at(sheet, shape, ink, to);
-        return;
+        return sheet::join_at(shape, to, rectangle);
     }
-    line::draw_between(sheet, shape, ink, from, to);
+    if line::draw_short(sheet, shape, ink, from, to) {
+        return sheet::join_at(shape, to, rectangle);
+    }
+    let drawn = line::draw_between(sheet, shape, ink, from, to);
+    rectangle.join(drawn.rectangle)
 }
 
-// Draws the lines between each point and the next.
-fn join(sheet: &mut [u8], shape: Shape, ink: u8, controls: Controls, s: u32)
+// Draws the first point, and the lines between each point and the next.
+fn join(sheet: &mut [u8], shape: Shape, ink: u8, controls: Controls, s: u32) -> Rectangle
     requires { ⌜ Sheet shape (now sheet) × (allInLimits (pointsOf controls) ≡ true) × (s ≤ 6) ⌝ }
-    ensures { λ r. ⌜ now (sheet .exit) ≡ paint shape ink (onCurve (pointsOf controls) s) (now (sheet .entry)) ⌝ }
+    ensures { λ _. ⌜ now (sheet .exit) ≡ paint shape ink (onCurve (pointsOf controls) s) (now (sheet .entry)) ⌝ }
+    ensures { λ r. ⌜ r ≡ boxOf shape (onCurve (pointsOf controls) s) ⌝ }
 {
     let n = pieces(s);
     let mut way = way_of(controls, s);
     let mut from = spot_of(way);
+    sheet::ink_at(sheet, shape, ink, from);
+    let mut rectangle = sheet::join_at(shape, from, Rectangle::none());
     let mut i: u32 = 0;
     while i < n {
         i += 1;
         way = advanced(way);
         let to = spot_of(way);
-        piece(sheet, shape, ink, from, to);
+        rectangle = piece(sheet, shape, ink, from, to, rectangle);
         from = to;
     }
+    rectangle
 }
 
 // Whether all control points are within the limits.
@@ -285,21 +304,23 @@ fn in_limits(controls: Controls) -> bool
 }
 
 // Draws the curve with these control points, split into 2^s pieces.
-fn draw(sheet: &mut [u8], shape: Shape, ink: u8, controls: Controls, s: u32) -> Reply
-    ensures { λ r. ⌜ Draws (curveDrawing shape ink (pointsOf controls) s) (now (sheet .entry)) (told r) (now (sheet .exit)) ⌝ }
+fn draw(sheet: &mut [u8], shape: Shape, ink: u8, controls: Controls, s: u32) -> Drawn
+    ensures { λ r. ⌜ Draws (curveDrawing shape ink (pointsOf controls) s) (now (sheet .entry)) (toldDrawn r) (now (sheet .exit)) ⌝ }
 {
     let tested = sheet::check(shape, sheet.len());
     if !tested.is_done() {
-        return tested;
+        return sheet::undrawn(tested);
     }
     if !in_limits(controls) {
-        return Reply::Refused(Refusal::Coordinate);
+        return sheet::undrawn(Reply::Refused(Refusal::Coordinate));
     }
     if !sheet::is_split(s) {
-        return Reply::Refused(Refusal::Pieces);
+        return sheet::undrawn(Reply::Refused(Refusal::Pieces));
     }
-    join(sheet, shape, ink, controls, s);
-    Reply::Done
+    Drawn {
+        reply: Reply::Done,
+        rectangle: join(sheet, shape, ink, controls, s),
+    }
 }
 
 // Draws a quadratic curve.
@@ -311,8 +332,8 @@ pub fn draw_curve(
     p1: Cell,
     p2: Cell,
     s: u32,
-) -> Reply
-    ensures { λ r. ⌜ Draws (curveDrawing shape ink (p0 ∷ p1 ∷ p2 ∷ []) s) (now (sheet .entry)) (told r) (now (sheet .exit)) ⌝ }
+) -> Drawn
+    ensures { λ r. ⌜ Draws (curveDrawing shape ink (p0 ∷ p1 ∷ p2 ∷ []) s) (now (sheet .entry)) (toldDrawn r) (now (sheet .exit)) ⌝ }
 {
     draw(sheet, shape, ink, Controls::Three(p0, p1, p2), s)
 }
@@ -327,8 +348,8 @@ pub fn draw_cubic(
     p2: Cell,
     p3: Cell,
     s: u32,
-) -> Reply
-    ensures { λ r. ⌜ Draws (curveDrawing shape ink (p0 ∷ p1 ∷ p2 ∷ p3 ∷ []) s) (now (sheet .entry)) (told r) (now (sheet .exit)) ⌝ }
+) -> Drawn
+    ensures { λ r. ⌜ Draws (curveDrawing shape ink (p0 ∷ p1 ∷ p2 ∷ p3 ∷ []) s) (now (sheet .entry)) (toldDrawn r) (now (sheet .exit)) ⌝ }
 {
     draw(sheet, shape, ink, Controls::Four(p0, p1, p2, p3), s)
 }

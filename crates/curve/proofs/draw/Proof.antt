@@ -11,7 +11,7 @@ use Rattle.sheet.specs.declared.Refusal.the-variants.{Coordinate, Pieces}
 use Rattle.sheet.proofs.Draws.{refuses}
 use Rattle.sheet.proofs.Lent.{if-sheet, is-sheet, sheet-refused}
 use Rattle.sheet.proofs.Limits.{fits-sheet}
-use Rattle.curve.specs.Draw.{allInLimits, curveAnswer}
+use Rattle.curve.specs.Draw.{allInLimits, curveAnswer, curveDrawing}
 use Rattle.curve.specs.Inner.{pointsOf}
 use Rattle.curve.proofs.Answers.{curve-done}
 use borrow.Author.Needs.{needs}
@@ -34,25 +34,44 @@ check-requires c κs = search needs
 is-done-requires : tie.Need-is-done-requires
 is-done-requires c κs = search needs
 
+undrawn-requires : tie.Need-undrawn-requires
+undrawn-requires c κs = search needs
+
 returns : tie.Need-returns
 unfolding curveAnswer
-returns c = let asked = c .before in sheet-refused _ _ _ _ _ _ refl (asked .before .check .ensures) (asked .is-done .ensures) (c .if1 .taken)
+returns c =
+    let asked = c .before .before in
+    let a = asked .before .before .before .args in
+    sheet-refused (curveDrawing (a .shape) (a .ink) (pointsOf (a .controls)) (a .s)) _ _ _ _ _ _ refl (asked .before .check .ensures) (asked .is-done .ensures) (c .before .if1 .taken) (c .undrawn .ensures)
 
 in-limits-requires : tie.Need-in-limits-requires
 in-limits-requires c κs = search needs
 
+undrawn-requires-2 : tie.Need-undrawn-requires-2
+undrawn-requires-2 c κs = search needs
+
 returns-2 : tie.Need-returns-2
 unfolding curveAnswer
-returns-2 c = refuses _ _ Coordinate (simp (if-sheet _ _ (fitted (c .before .before)), no _ _ (c .before .in-limits .ensures) (c .if2 .taken)))
+returns-2 c =
+    let tested = c .before in
+    let sized = tested .before .before in
+    let a = sized .before .before .before .before .args in
+    refuses (curveDrawing (a .shape) (a .ink) (pointsOf (a .controls)) (a .s)) _ Coordinate _ (c .undrawn2 .ensures) (simp (if-sheet _ _ (fitted sized), no _ _ (tested .before .in-limits .ensures) (tested .if2 .taken)))
 
 is-split-requires : tie.Need-is-split-requires
 is-split-requires c κs = search needs
 
+undrawn-requires-3 : tie.Need-undrawn-requires-3
+undrawn-requires-3 c κs = search needs
+
 returns-3 : tie.Need-returns-3
 unfolding curveAnswer
 returns-3 c =
-    let inside = c .before .before in
-    refuses _ _ Pieces (simp (if-sheet _ _ (fitted (inside .before .before)), limited inside, no _ _ (c .before .is-split .ensures) (c .if3 .taken)))
+    let tested = c .before in
+    let inside = tested .before .before in
+    let sized = inside .before .before in
+    let a = sized .before .before .before .before .args in
+    refuses (curveDrawing (a .shape) (a .ink) (pointsOf (a .controls)) (a .s)) _ Pieces _ (c .undrawn3 .ensures) (simp (if-sheet _ _ (fitted sized), limited inside, no _ _ (tested .before .is-split .ensures) (tested .if3 .taken)))
 
 join-requires : tie.Need-join-requires
 join-requires c κs =
@@ -72,7 +91,7 @@ returns-4 c =
     let inside = pieces .before .before in
     let sized = inside .before .before in
     let a = sized .before .before .before .before .args in
-    curve-done (a .shape) (a .ink) _ (a .s) (now (a .sheet)) _ (fitted sized) (limited inside) (parted pieces) (called .join .ensures)
+    curve-done (a .shape) (a .ink) _ (a .s) (now (a .sheet)) _ _ (fitted sized) (limited inside) (parted pieces) (called .join .ensures .0) (called .join .ensures .1)
 
 pub draw-spec : {M : Type 1} → statement M
 draw-spec =
@@ -80,10 +99,13 @@ draw-spec =
     (tie.spec
     check-requires
     is-done-requires
+    undrawn-requires
     returns
     in-limits-requires
+    undrawn-requires-2
     returns-2
     is-split-requires
+    undrawn-requires-3
     returns-3
     join-requires
     same-length

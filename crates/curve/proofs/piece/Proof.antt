@@ -1,15 +1,21 @@
 -- `curve::piece` meets its contract.
-use Prim.Native.Nat.{_≤_}
+use Prim.Native.Nat.{ℕ, _≤_}
 use mathlib.Core.Path.{sym, ap, _∙_}
+use mathlib.Core.Bool.{Bool, cond}
+use mathlib.Core.List.{List}
 use native.Mathlib.Omega.{arith}
+use lib.ListN.{length}
 use denote.Ref.{now}
 use Rattle.laws.proofs.Tests.{halves}
-use Rattle.sheet.specs.Inner.{unmovedCell, inkedAt}
+use Rattle.sheet.specs.Sheet.{paint}
+use Rattle.sheet.specs.Repaint.{join}
+use Rattle.sheet.specs.Inner.{unmovedCell, fits}
 use Rattle.sheet.proofs.Limits.{sheet-fits}
-use Rattle.line.specs.Rule.{long}
-use Rattle.line.proofs.Answers.{spot-lifted, line-drawn}
-use Rattle.line.proofs.Touching.{spots-touch, touching-inked}
+use Rattle.line.specs.Rule.{long, onLine}
+use Rattle.line.proofs.Answers.{spot-lifted, line-drawn, line-told-box}
+use Rattle.line.proofs.Touching.{spots-touch}
 use borrow.Author.Needs.{needs}
+use Rattle.curve.proofs.Adding.{near-adds, short-adds, part-adds}
 use Rattle.curve.proofs.piece.Statement.{statement}
 use Rattle.curve.proofs.piece.Tie as tie
 
@@ -37,37 +43,68 @@ near-requires-2 c κs =
 ink-at-requires : tie.Need-ink-at-requires
 ink-at-requires c κs = search needs
 
-ink-at-requires-2 : tie.Need-ink-at-requires-2
-ink-at-requires-2 c κs = search needs
+join-at-requires : tie.Need-join-at-requires
+join-at-requires c κs = search needs
 
 same-length : tie.Need-same-length
 same-length c = search needs
 
 returns : tie.Need-returns
 returns c =
-    let inked = c .before .before in
-    let first = inked .before .before .before .before in
-    let tested = first .before .before in
+    let inked = c .before .before .before in
+    let tested = inked .before .before in
     let start = tested .before .before .before .before in
     let a = start .args in
-    inked .ink-at2 .ensures
-    ∙ ap (inkedAt (a .shape) (a .ink) (unmovedCell (a .to))) (first .ink-at .ensures)
-    ∙ touching-inked (a .shape) (a .ink) (unmovedCell (a .from)) (unmovedCell (a .to)) (now (a .sheet)) (start .pre .0 .disjoint) (touching tested)
+    near-adds (a .shape) (a .ink) (unmovedCell (a .from)) (unmovedCell (a .to)) (now (a .sheet)) _ (a .rectangle) _ (start .pre .0) (touching tested)
+    (inked .ink-at .ensures) (c .join-at .ensures)
 
-draw-between-requires : tie.Need-draw-between-requires
-draw-between-requires c κs = search needs
+draw-short-requires : tie.Need-draw-short-requires
+draw-short-requires c κs = search needs
+
+join-at-requires-2 : tie.Need-join-at-requires-2
+join-at-requires-2 c κs = search needs
 
 same-length-2 : tie.Need-same-length-2
 same-length-2 c = search needs
 
 returns-2 : tie.Need-returns-2
 returns-2 c =
-    let called = c .before .before in
+    let tested = c .before in
+    let called = tested .before .before .before in
     let start = called .before .before .before .before .before .before in
     let a = start .args in
     let s = now (a .sheet) in
-    line-drawn (a .shape) (unmovedCell (a .from)) (unmovedCell (a .to)) (a .ink) s _ _
-    (sheet-fits (a .shape) s (start .pre .0)) (start .pre .1 .0) (start .pre .1 .1) (called .draw-between .ensures)
+    let line = onLine (unmovedCell (a .from)) (unmovedCell (a .to)) in
+    let told = called .draw-short .ensures in
+    short-adds (a .shape) (a .ink) (a .from) (a .to) s _ (a .rectangle) _ (start .pre .0) (told .1 (tested .if2 .taken))
+    (told .0 ∙ ap (λ (t : Bool). cond t (paint (a .shape) (a .ink) line s) s) (tested .if2 .taken)) (c .join-at2 .ensures)
+
+draw-between-requires : tie.Need-draw-between-requires
+draw-between-requires c κs = search needs
+
+join-requires : tie.Need-join-requires
+join-requires c κs = search needs
+
+same-length-3 : tie.Need-same-length-3
+same-length-3 c = search needs
+
+returns-3 : tie.Need-returns-3
+returns-3 c =
+    let called = c .before .before .before in
+    let tested = called .before .before in
+    let tried = tested .before .before .before in
+    let start = tried .before .before .before .before .before .before in
+    let a = start .args in
+    let k = a .shape in
+    let s = now (a .sheet) in
+    let from = unmovedCell (a .from) in
+    let to = unmovedCell (a .to) in
+    let same = tried .draw-short .ensures .0 ∙ ap (λ (t : Bool). cond t (paint k (a .ink) (onLine from to) s) s) (tested .if2 .left) in
+    let fit = ap (λ (u : List ℕ). fits k (length u)) same ∙ sheet-fits k s (start .pre .0) in
+    let told = called .draw-between .ensures in
+    part-adds k (a .ink) from to s _ (a .rectangle) _
+    (line-drawn k from to (a .ink) _ _ _ fit (start .pre .1 .0) (start .pre .1 .1) told ∙ ap (paint k (a .ink) (onLine from to)) same)
+    (c .join .ensures ∙ ap (join (a .rectangle)) (line-told-box k from to (a .ink) _ _ _ fit (start .pre .1 .0) (start .pre .1 .1) told))
 
 pub piece-spec : {M : Type 1} → statement M
 piece-spec =
@@ -76,9 +113,14 @@ piece-spec =
     near-requires
     near-requires-2
     ink-at-requires
-    ink-at-requires-2
+    join-at-requires
     same-length
     returns
-    draw-between-requires
+    draw-short-requires
+    join-at-requires-2
     same-length-2
-    returns-2)
+    returns-2
+    draw-between-requires
+    join-requires
+    same-length-3
+    returns-3)
