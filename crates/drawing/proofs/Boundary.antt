@@ -1,6 +1,6 @@
 -- One agreed boundary, drawn from either end and in any order, has the same answers and leaves the same bytes.
 use Prim.Native.Nat.{ℕ}
-use mathlib.Core.Path.{_≡_, refl, sym, subst, ap, _∙_}
+use mathlib.Core.Path.{_≡_, refl, sym, subst, ap, ap₂, _∙_}
 use mathlib.Core.List.{List, [], _∷_, map}
 use native.Mathlib.Omega.{arith}
 use mathlib.Core.Logic.{inl, inr}
@@ -11,13 +11,16 @@ use lib.Ieee.{Float}
 use lib.ListN.{length}
 use Rattle.laws.proofs.Tests.{or-l, or-r, or-e, same}
 use Rattle.sheet.specs.Sheet.{inLimits, cell, cellOf, paint, cellsOn}
-use Rattle.sheet.specs.Reply.{Answer, done, unless, settled}
-use Rattle.sheet.specs.Drawing.{only, paintAll, ifSheet, Draws}
+use Rattle.sheet.specs.Repaint.{nothing, join, boxOf}
+use Rattle.sheet.specs.Reply.{Answer, done, withBox, unless, settled}
+use Rattle.sheet.specs.Drawing.{only, paintAll, boxAll, ifSheet, Draws}
 use Rattle.sheet.specs.declared.Cell.{Cell}
 use Rattle.sheet.specs.declared.Shape.{Shape}
 use Rattle.sheet.specs.declared.Figure.{Figure}
 use Rattle.sheet.specs.declared.Refusal.the-variants.{Coordinate}
 use Rattle.sheet.specs.declared.Refusal.the-variants as refusal
+use Rattle.sheet.specs.declared.repaint.Rectangle.{Rectangle}
+use Rattle.sheet.proofs.Boxes.{box-as, box-none, box-then}
 use Rattle.sheet.proofs.Lent.{sheet-done}
 use Rattle.sheet.proofs.Paint.{paint-as, paint-none, paint-then}
 use Rattle.line.specs.Rule.{onLine}
@@ -115,12 +118,27 @@ module _ (k : Shape) where
       ∙ paint-all ink qs rest (paint k ink (onFigure (r .figure)) s) h
       ∙ paint-then k ink (onFigure (r .figure)) (onAll rest) s
 
+  -- and their rectangle is that of one figure
+  abbrev pub boxRecords : List Record → Rectangle
+  boxRecords rs = boxAll k (map inked rs)
+
+  box-records : (rs : List Record) → boxRecords rs ≡ boxOf k (onAll rs)
+  unfolding onAll boxAll
+  box-records [] = sym (box-none k (λ (c : Cell). false) (λ x y a b. refl))
+  box-records (r ∷ rs) = ap (join (boxOf k (onFigure (r .figure)))) (box-records rs) ∙ sym (box-then k (onFigure (r .figure)) (onAll rs))
+
   -- in any order
   pub same-boundary : (ink : ℕ) (rs qs : List Record) (s : List ℕ) → SameBoundary ink rs qs → paintRecords rs s ≡ paintRecords qs s
   same-boundary ink rs qs s h =
       paint-all ink qs rs s (h .there)
       ∙ paint-as k ink (onAll rs) (onAll qs) s (λ x y a b. same _ _ (all-on ink qs rs (cellOf x y) (h .there)) (all-on ink rs qs (cellOf x y) (h .back)))
       ∙ sym (paint-all ink rs qs s (h .back))
+
+  pub same-boundary-box : (ink : ℕ) (rs qs : List Record) → SameBoundary ink rs qs → boxRecords rs ≡ boxRecords qs
+  same-boundary-box ink rs qs h =
+      box-records rs
+      ∙ box-as k (onAll rs) (onAll qs) (λ x y a b. same _ _ (all-on ink qs rs (cellOf x y) (h .there)) (all-on ink rs qs (cellOf x y) (h .back)))
+      ∙ sym (box-records qs)
 
   -- in the same order
   pub same-in-turn : (rs qs : List Record) (s : List ℕ) → InTurn rs qs → paintRecords rs s ≡ paintRecords qs s
@@ -130,11 +148,24 @@ module _ (k : Shape) where
       ap (paintRecords rest) (p ∙ ap (λ (i : ℕ). paint k i (onFigure (q .figure)) s) e)
       ∙ same-in-turn rest more (paint k (q .ink) (onFigure (q .figure)) s) h
 
+  pub same-in-turn-box : (rs qs : List Record) → InTurn rs qs → boxRecords rs ≡ boxRecords qs
+  unfolding boxAll
+  same-in-turn-box rs qs InTurn.none = refl
+  same-in-turn-box rs qs (InTurn.also r q rest more e f h) =
+      ap₂ join (box-as k (onFigure (r .figure)) (onFigure (q .figure)) (λ x y a b. same-figure (r .figure) (q .figure) (cellOf x y) f)) (same-in-turn-box rest more h)
+
   -- what a file of which no record is refused tells and leaves
   module _ (file lent : List ℕ) (rs : List Record) (e : readAll file ≡ holds rs) (a : Answer) (s : List ℕ) (h : Draws (fileDrawing k file) lent a s) where
-    told-by : a ≡ ofFile (ifSheet k (length lent) (done (pos (length rs) ∷ [])))
+    told-by : withBox a nothing ≡ ofFile (ifSheet k (length lent) (done (pos (length rs) ∷ [])))
     unfolding drawFileAnswer fileAnswer
-    told-by = h .tells ∙ ap (λ (c : Contents). ofFile (ifSheet k (length lent) (contentsAnswer c))) e
+    told-by = ap (λ (a : Answer). withBox a nothing) (h .tells) ∙ ap (λ (c : Contents). ofFile (ifSheet k (length lent) (contentsAnswer c))) e
+
+    boxed-by : a .box ≡ settled (ifSheet k (length lent) (done [])) (boxRecords rs) nothing
+    unfolding drawFileAnswer fileAnswer
+    boxed-by =
+        ap (λ (a : Answer). a .box) (h .tells)
+        ∙ (λ i. settled (ofFile (ifSheet k (length lent) (contentsAnswer (e i)))) (boxRecords (recordsOf (e i))) nothing)
+        ∙ ap (λ (t : Bool). cond t (boxRecords rs) nothing) (sheet-done k (length lent) (pos (length rs) ∷ []) [])
 
     left-by : s ≡ settled (ifSheet k (length lent) (done [])) (paintRecords rs lent) lent
     unfolding drawFileAnswer fileAnswer
@@ -150,9 +181,16 @@ module _ (k : Shape) where
     pub files-left : paintRecords rs lent ≡ paintRecords qs lent → s ≡ t
     files-left p = left-by file lent rs e a s h ∙ ap (λ (d : List ℕ). settled (ifSheet k (length lent) (done [])) d lent) p ∙ sym (left-by other lent qs f b t g)
 
-    -- and with as many records the replies are equal.
-    pub files-told : length rs ≡ length qs → a ≡ b
+    -- with as many records the replies are equal, but for the rectangle,
+    pub files-told : length rs ≡ length qs → withBox a nothing ≡ withBox b nothing
     files-told l =
         told-by file lent rs e a s h
         ∙ ap (λ (n : ℕ). ofFile (ifSheet k (length lent) (done (pos n ∷ [])))) l
         ∙ sym (told-by other lent qs f b t g)
+
+    -- and so is that, where that of their records is the same.
+    pub files-boxed : boxRecords rs ≡ boxRecords qs → a .box ≡ b .box
+    files-boxed p =
+        boxed-by file lent rs e a s h
+        ∙ ap (λ (r : Rectangle). settled (ifSheet k (length lent) (done [])) r nothing) p
+        ∙ sym (boxed-by other lent qs f b t g)

@@ -1,20 +1,22 @@
 -- Drawing a figure of any kind.
 use Prim.Native.Nat.{ℕ}
-use mathlib.Core.Path.{_≡_, refl, sym}
+use mathlib.Core.Path.{_≡_, refl, sym, _∙_}
 use mathlib.Core.List.{List, []}
 use mathlib.Core.Bool.{Bool, true, false, _&&_}
 use lib.IntN.{ℤ}
 use lib.ListN.{length}
 use Rattle.sheet.specs.Sheet.{inLimits, paint}
+use Rattle.sheet.specs.Repaint.{boxOf}
 use Rattle.sheet.specs.Reply.{Answer, done, unless, isDone}
 use Rattle.sheet.specs.Figure.{ifFigure}
-use Rattle.sheet.specs.Drawing.{ifSheet, Draws}
+use Rattle.sheet.specs.Drawing.{ifSheet, telling, Draws}
 use Rattle.sheet.specs.Inner.{fits}
 use Rattle.sheet.specs.declared.Shape.{Shape}
 use Rattle.sheet.specs.declared.Figure.{Figure}
 use Rattle.sheet.specs.declared.Refusal.the-variants.{Coordinate}
 use Rattle.sheet.specs.declared.Figure.the-variants.{Line, Circle, Ellipse, Curve, Cubic}
-use Rattle.sheet.proofs.Draws.{drawn}
+use Rattle.sheet.proofs.Boxes.{box-only}
+use Rattle.sheet.proofs.Draws.{drawn, box-told}
 use Rattle.sheet.proofs.Figures.{Sound}
 use Rattle.sheet.proofs.Lent.{if-sheet, sheet-again}
 use Rattle.line.specs.Draw.{lineAnswer}
@@ -67,8 +69,16 @@ module _ (k : Shape) (ink : ℕ) where
 
   pub figure-painted : (f : Figure) (s t : List ℕ) (r : Answer) → fits k (length s) ≡ true → Sound f
       → Draws (figureDrawing k ink f) s r t → t ≡ paint k ink (onFigure f) s
-  figure-painted (Line a b) s t r e l h = drawn _ s r t h (figure-done (Line a b) (length s) e l)
-  figure-painted (Circle c m) s t r e l h = drawn _ s r t h (figure-done (Circle c m) (length s) e l)
-  figure-painted (Ellipse c a b) s t r e l h = drawn _ s r t h (figure-done (Ellipse c a b) (length s) e l)
-  figure-painted (Curve p0 p1 p2 m) s t r e l h = drawn _ s r t h (figure-done (Curve p0 p1 p2 m) (length s) e l)
-  figure-painted (Cubic p0 p1 p2 p3 m) s t r e l h = drawn _ s r t h (figure-done (Cubic p0 p1 p2 p3 m) (length s) e l)
+  figure-painted (Line a b) s t r e l h = drawn (telling (figureDrawing k ink (Line a b))) s r t h (figure-done (Line a b) (length s) e l)
+  figure-painted (Circle c m) s t r e l h = drawn (telling (figureDrawing k ink (Circle c m))) s r t h (figure-done (Circle c m) (length s) e l)
+  figure-painted (Ellipse c a b) s t r e l h = drawn (telling (figureDrawing k ink (Ellipse c a b))) s r t h (figure-done (Ellipse c a b) (length s) e l)
+  figure-painted (Curve p0 p1 p2 m) s t r e l h = drawn (telling (figureDrawing k ink (Curve p0 p1 p2 m))) s r t h (figure-done (Curve p0 p1 p2 m) (length s) e l)
+  figure-painted (Cubic p0 p1 p2 p3 m) s t r e l h = drawn (telling (figureDrawing k ink (Cubic p0 p1 p2 p3 m))) s r t h (figure-done (Cubic p0 p1 p2 p3 m) (length s) e l)
+
+  pub figure-boxed : (f : Figure) (s t : List ℕ) (r : Answer) → fits k (length s) ≡ true → Sound f
+      → Draws (figureDrawing k ink f) s r t → r .box ≡ boxOf k (onFigure f)
+  figure-boxed (Line a b) s t r e l h = box-told (figureDrawing k ink (Line a b)) s r t h (figure-done (Line a b) (length s) e l) ∙ box-only k ink (onFigure (Line a b))
+  figure-boxed (Circle c m) s t r e l h = box-told (figureDrawing k ink (Circle c m)) s r t h (figure-done (Circle c m) (length s) e l) ∙ box-only k ink (onFigure (Circle c m))
+  figure-boxed (Ellipse c a b) s t r e l h = box-told (figureDrawing k ink (Ellipse c a b)) s r t h (figure-done (Ellipse c a b) (length s) e l) ∙ box-only k ink (onFigure (Ellipse c a b))
+  figure-boxed (Curve p0 p1 p2 m) s t r e l h = box-told (figureDrawing k ink (Curve p0 p1 p2 m)) s r t h (figure-done (Curve p0 p1 p2 m) (length s) e l) ∙ box-only k ink (onFigure (Curve p0 p1 p2 m))
+  figure-boxed (Cubic p0 p1 p2 p3 m) s t r e l h = box-told (figureDrawing k ink (Cubic p0 p1 p2 p3 m)) s r t h (figure-done (Cubic p0 p1 p2 p3 m) (length s) e l) ∙ box-only k ink (onFigure (Cubic p0 p1 p2 p3 m))

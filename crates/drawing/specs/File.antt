@@ -2,6 +2,7 @@
 use Prim.Native.Nat.{ℕ}
 use mathlib.Core.List.{List, [], _∷_, map}
 use lib.IntN.{pos}
+use Rattle.sheet.specs.Repaint.{nothing}
 use Rattle.sheet.specs.Reply.{Answer, valueOf}
 use Rattle.sheet.specs.Drawing.{Inked, Drawing, ifSheet}
 use Rattle.sheet.specs.declared.Shape.{Shape}
@@ -23,7 +24,7 @@ figuresIn file = map inked (recordsOf (readAll file))
 
 -- A file's answer has one value: its number of records, or a refusal's offset, which is 0 for one that speaks of the sheet.
 abbrev pub ofFile : Answer → Answer
-ofFile a = record { number = a .number; values = pos (valueOf a) ∷ [] }
+ofFile a = record { number = a .number; values = pos (valueOf a) ∷ []; box = nothing }
 
 -- the answer of reading the file, on a sheet
 unfoldable pub drawFileAnswer : Shape → List ℕ → ℕ → Answer

@@ -1,14 +1,14 @@
 // A figure of any kind, drawn by the drawing of its kind; a circle as the ellipse of equal axes.
-ghost use Rattle.sheet.specs.Reply.{told};
+ghost use Rattle.sheet.specs.Reply.{toldDrawn};
 ghost use Rattle.sheet.specs.Drawing.{Draws};
 ghost use Rattle.drawing.specs.Figure.{figureDrawing};
+use sheet::Drawn;
 use sheet::Figure;
-use sheet::Reply;
 use sheet::Shape;
 
 // Draws a figure of any kind.
-pub fn draw_figure(sheet: &mut [u8], shape: Shape, ink: u8, figure: Figure) -> Reply
-    ensures { λ r. ⌜ Draws (figureDrawing shape ink figure) (now (sheet .entry)) (told r) (now (sheet .exit)) ⌝ }
+pub fn draw_figure(sheet: &mut [u8], shape: Shape, ink: u8, figure: Figure) -> Drawn
+    ensures { λ r. ⌜ Draws (figureDrawing shape ink figure) (now (sheet .entry)) (toldDrawn r) (now (sheet .exit)) ⌝ }
 {
     match figure {
         Figure::Line(a, b) => line::draw_line(sheet, shape, ink, a, b),

@@ -2,29 +2,34 @@
 ghost use mathlib.Core.Path.{_≡_};
 ghost use mathlib.Core.Bool.{true};
 ghost use lib.ListN.{length};
-ghost use Rattle.sheet.specs.Reply.{told, isDone};
-ghost use Rattle.sheet.specs.Drawing.{paintAll, Draws};
+ghost use Rattle.sheet.specs.Reply.{told, toldDrawn, isDone};
+ghost use Rattle.sheet.specs.Drawing.{paintAll, boxAll, Draws};
 ghost use Rattle.sheet.specs.Inner.{fits};
 ghost use Rattle.record.specs.File.{fileAnswer};
 ghost use Rattle.drawing.specs.File.{figuresIn, ofFile, fileDrawing};
 use crate::figure::draw_figure;
 use record::Read;
+use sheet::Drawn;
+use sheet::Rectangle;
 use sheet::Reply;
 use sheet::Shape;
 
-// Draws the records of a file in which none is refused.
-fn draw_records(sheet: &mut [u8], shape: Shape, file: &[u8])
+// Draws the records of a file in which none is refused; the rectangle over them.
+fn draw_records(sheet: &mut [u8], shape: Shape, file: &[u8]) -> Rectangle
     requires { ⌜ fits shape (length (now sheet)) ≡ true ⌝ }
     requires { ⌜ isDone (fileAnswer (now file)) ≡ true ⌝ }
-    ensures { λ r. ⌜ now (sheet .exit) ≡ paintAll shape (figuresIn (now (file .entry))) (now (sheet .entry)) ⌝ }
+    ensures { λ _. ⌜ now (sheet .exit) ≡ paintAll shape (figuresIn (now (file .entry))) (now (sheet .entry)) ⌝ }
+    ensures { λ r. ⌜ r ≡ boxAll shape (figuresIn (now (file .entry))) ⌝ }
 {
+    let mut rectangle = Rectangle::none();
     let mut at: usize = 0;
     loop {
         let Read::Record(record) = record::read(file, at) else {
-            return;
+            return rectangle;
         };
         let figure = record.figure;
-        draw_figure(sheet, shape, record.ink, figure);
+        let drawn = draw_figure(sheet, shape, record.ink, figure);
+        rectangle = rectangle.join(drawn.rectangle);
         at = record.next;
     }
 }
@@ -42,17 +47,17 @@ fn of_file(reply: Reply) -> Reply
 }
 
 // Draws a whole file: 0 with its number of records, or a refusal with its offset.
-pub fn draw_file(sheet: &mut [u8], shape: Shape, file: &[u8]) -> Reply
-    ensures { λ r. ⌜ Draws (fileDrawing shape (now (file .entry))) (now (sheet .entry)) (told r) (now (sheet .exit)) ⌝ }
+pub fn draw_file(sheet: &mut [u8], shape: Shape, file: &[u8]) -> Drawn
+    ensures { λ r. ⌜ Draws (fileDrawing shape (now (file .entry))) (now (sheet .entry)) (toldDrawn r) (now (sheet .exit)) ⌝ }
 {
     let tested = sheet::check(shape, sheet.len());
     if !tested.is_done() {
-        return of_file(tested);
+        return sheet::undrawn(of_file(tested));
     }
     let reply = record::check(file);
     if !reply.is_done() {
-        return reply;
+        return sheet::undrawn(reply);
     }
-    draw_records(sheet, shape, file);
-    reply
+    let rectangle = draw_records(sheet, shape, file);
+    Drawn { reply, rectangle }
 }

@@ -12,12 +12,12 @@ use lib.Signed.{leZ, ltZ}
 use Rattle.laws.proofs.Parts.{dn}
 use Rattle.sheet.specs.Sheet.{onSheet, cellOf}
 use Rattle.sheet.specs.Reply.{Answer, done, isDone}
-use Rattle.sheet.specs.Drawing.{Draws}
+use Rattle.sheet.specs.Drawing.{Paints}
 use Rattle.sheet.specs.Inner.{fits}
 use Rattle.sheet.specs.declared.Cell.{Cell}
 use Rattle.sheet.specs.declared.Shape.{Shape}
 use Rattle.sheet.proofs.Cells.{on-sheet}
-use Rattle.sheet.proofs.Draws.{keeps, draws}
+use Rattle.sheet.proofs.Draws.{keeps, paints}
 use Rattle.sheet.proofs.Lent.{if-sheet}
 use Rattle.fill.specs.Fill.{fillAnswer, Fills}
 use Rattle.fill.specs.Inner.{indexOf, Flooded}
@@ -103,5 +103,5 @@ fill-done {k} {a} {b} {ink} {p} {x} {y} {n} {s} {s′} f room l m e F =
     rw e (record {
       territory = F .test;
       decides = λ d. F .decides;
-      draws = draws _ s (pos n ∷ []) s′ (simp (if-sheet k (length s) f, le-leb (k .width * k .height) p room, on-sheet k x y l m, F .number)) (F .paints);
+      draws = paints _ s (done (pos n ∷ [])) s′ refl (simp (if-sheet k (length s) f, le-leb (k .width * k .height) p room, on-sheet k x y l m, F .number)) (F .paints);
     })

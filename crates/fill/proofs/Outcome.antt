@@ -1,6 +1,6 @@
 -- What a fill tells and leaves: where it is done, and where it is not.
 use Prim.Native.Nat.{ℕ, _*_}
-use mathlib.Core.Path.{_≡_, refl, sym, ap, _∙_}
+use mathlib.Core.Path.{_≡_, refl, sym, subst, ap, _∙_}
 use mathlib.Core.List.{List, [], _∷_}
 use mathlib.Core.Bool.{Bool, true, false, cond, true≢false}
 use lib.Dec.{leb}
@@ -8,12 +8,12 @@ use lib.IntN.{ℤ, pos}
 use lib.ListN.{length, getD}
 use Rattle.sheet.specs.Sheet.{sized, sliced, onSheet, place, paint, cellsOn}
 use Rattle.sheet.specs.Reply.{Answer, done, unless, isDone}
-use Rattle.sheet.specs.Drawing.{Draws, ifSheet}
+use Rattle.sheet.specs.Drawing.{Paints, ifSheet}
 use Rattle.sheet.specs.Inner.{Sheet}
 use Rattle.sheet.specs.declared.Cell.{Cell}
 use Rattle.sheet.specs.declared.Shape.{Shape}
 use Rattle.sheet.specs.declared.Refusal.the-variants.{Size, Slice, Work, Start}
-use Rattle.sheet.proofs.Draws.{drawn, draws-as}
+use Rattle.sheet.proofs.Draws.{drawn}
 use Rattle.sheet.proofs.Lent.{if-sheet, done-sheet}
 use Rattle.sheet.proofs.Limits.{fits-sheet}
 use Rattle.sheet.proofs.Paint.{paint-cell}
@@ -95,11 +95,11 @@ turns-not k a p n f g =
 
 -- So a fill may be told by any test that is its own where it is done.
 pub told-by : {k : Shape} {a : Cell} {b i p : ℕ} {lent : List ℕ} {r : Answer} {s : List ℕ} (F : Fills k a b i p lent r s) (g : Cell → Bool)
-    → (isDone r ≡ true → F .territory ≡ g) → Draws (fillDrawing k a i g p) lent r s
+    → (isDone r ≡ true → F .territory ≡ g) → Paints (fillDrawing k a i g p) lent r s
 told-by {k} {a} {b} {i} {p} {lent} {r} {s} F g same = by (isDone r) refl
   where
-    by : (t : Bool) → isDone r ≡ t → Draws (fillDrawing k a i g p) lent r s
-    by true e = draws-as _ lent _ r s (ap (λ (g : Cell → Bool). fillDrawing k a i g p) (same e)) (F .draws)
+    by : (t : Bool) → isDone r ≡ t → Paints (fillDrawing k a i g p) lent r s
+    by true e = subst (λ (g : Cell → Bool). Paints (fillDrawing k a i g p) lent r s) (same e) (F .draws)
     by false e =
         let u : isDone (fillAnswer k a p (F .territory) (length lent)) ≡ false = sym (ap isDone (F .draws .tells)) ∙ e in
         let q = turns-not k a p (length lent) (F .territory) g .1 u in

@@ -10,14 +10,14 @@ use lib.ListN.{length, getD}
 use Rattle.sheet.specs.Sheet.{onSheet, paint, cellsOn}
 use Rattle.sheet.specs.Reply.{Answer, done, unless, isDone}
 use Rattle.sheet.specs.Drawing.{only}
-use Rattle.sheet.specs.Pitch.{Padding, withPitch, Alike, AnyPitch}
+use Rattle.sheet.specs.Pitch.{Padding, withPitch, Alike}
 use Rattle.sheet.specs.Inner.{fits}
 use Rattle.sheet.specs.declared.Cell.{Cell}
 use Rattle.sheet.specs.declared.Shape.{Shape}
 use Rattle.sheet.specs.declared.Refusal.the-variants.{Work, Start}
 use Rattle.sheet.proofs.Count.{cells-pitch}
 use Rattle.sheet.proofs.Limits.{fits-disjoint}
-use Rattle.sheet.proofs.Pitch.{padding-stays, paint-alike, any-pitch, on-sheets}
+use Rattle.sheet.proofs.Pitch.{padding-stays, paint-alike, paints-any-pitch, on-sheets}
 use Rattle.fill.specs.Territory.{Open, Reach}
 use Rattle.fill.specs.Fill.{fillAnswer, fillDrawing, Fills}
 use Rattle.fill.proofs.Reaching.{reach-then, reach-back, reach-as, tests-same}
@@ -28,8 +28,8 @@ pub fill-padding : {k : Shape} {a : Cell} {b i p : ℕ} {lent : List ℕ} {r : A
     → (n : ℕ) → Padding k n → getD s n 0 ≡ getD lent n 0
 fill-padding F = padding-stays _ _ _ _ (F .draws)
 
--- the drawing of one test, with any pitch
-module _ (a : Cell) (i p : ℕ) (f : Cell → Bool) where
+-- the answer for one test, with any pitch
+module _ (a : Cell) (p : ℕ) (f : Cell → Bool) where
   answer-pitch : (k : Shape) (pitch n m : ℕ) → fits k n ≡ true → fits (withPitch k pitch) m ≡ true
       → fillAnswer k a p f n ≡ fillAnswer (withPitch k pitch) a p f m
   unfolding fillAnswer onSheet
@@ -37,9 +37,6 @@ module _ (a : Cell) (i p : ℕ) (f : Cell → Bool) where
       on-sheets k (withPitch k pitch) n m _ _ e g
       (ap (λ (c : ℕ). unless (leb (k .width * k .height) p) Work (unless (onSheet k a) Start (done (pos c ∷ []))))
       (cells-pitch f k pitch (fits-disjoint k n e) (fits-disjoint (withPitch k pitch) m g)))
-
-  test-any-pitch : AnyPitch (λ (k : Shape). fillDrawing k a i f p)
-  test-any-pitch = any-pitch (λ k. fillAnswer k a p f) (only i f) answer-pitch
 
 -- On two sheets that are alike cell for cell,
 module _ {k : Shape} {pitch : ℕ} {lent other : List ℕ} (h : Alike k pitch lent other) where
@@ -60,10 +57,10 @@ module _ {k : Shape} {pitch : ℕ} {lent other : List ℕ} (h : Alike k pitch le
   unfolding fits
   fill-any-pitch {a} {b} {i} {p} {r} {r′} {s} {s′} F G =
       let f = F .territory in
-      let told = F .draws .tells ∙ answer-pitch a i p f k pitch (length lent) (length other) (h .one) (h .other) in
+      let told = F .draws .tells ∙ answer-pitch a p f k pitch (length lent) (length other) (h .one) (h .other) in
       let same = turns-not (withPitch k pitch) a p (length other) f (G .territory) .0 in
       let done : isDone r ≡ isDone r′ = ap isDone told ∙ same ∙ sym (ap isDone (G .draws .tells)) in
-      test-any-pitch a i p f k pitch lent other r r′ s s′ h (F .draws)
+      paints-any-pitch (λ k. fillAnswer k a p f) (only i f) (answer-pitch a p f) k pitch lent other r r′ s s′ h (F .draws)
       (told-by G f (λ e. tests-same (G .decides e) (F .decides (done ∙ e)) (λ c. reach-pitch b a c .1) (λ c. reach-pitch b a c .0)))
 
   -- and so do two fills from any two cells of one territory that are both done.

@@ -7,7 +7,7 @@ use lib.Dec.{leb}
 use lib.IntN.{pos}
 use Rattle.sheet.specs.Sheet.{onSheet, cellsOn}
 use Rattle.sheet.specs.Reply.{Answer, done, unless, isDone}
-use Rattle.sheet.specs.Drawing.{Drawing, Draws, only, ifSheet}
+use Rattle.sheet.specs.Drawing.{Drawing, Paints, only, ifSheet}
 use Rattle.sheet.specs.declared.Cell.{Cell}
 use Rattle.sheet.specs.declared.Shape.{Shape}
 use Rattle.sheet.specs.declared.Refusal.the-variants.{Work, Start}
@@ -26,7 +26,7 @@ fillDrawing k start ink territory places = record { shape = k; answer = fillAnsw
 pub record Fills (k : Shape) (start : Cell) (boundary ink places : ℕ) (lent : List ℕ) (reply : Answer) (bytes : List ℕ) : Type 0 where
   pub territory : Cell → Bool
   pub decides : isDone reply ≡ true → Territory k boundary lent start territory
-  pub draws : Draws (fillDrawing k start ink territory places) lent reply bytes
+  pub draws : Paints (fillDrawing k start ink territory places) lent reply bytes
 
 -- A refusal leaves the work slice as it was.
 abbrev pub Spares : Answer → List ℕ → List ℕ → Type 0

@@ -8,7 +8,7 @@ use lib.ListN.{length, drop, length-append}
 use borrow.Author.Tests.{le-leb, lt-leb}
 use Rattle.sheet.specs.Sheet.{bytes}
 use Rattle.sheet.specs.Reply.{Answer, isDone, valueOf}
-use Rattle.sheet.specs.Drawing.{paintAll, Draws}
+use Rattle.sheet.specs.Drawing.{paintAll, telling, Draws}
 use Rattle.sheet.proofs.Draws.{drawn as drawn-whole}
 use Rattle.drawing.specs.File.{figuresIn, drawFileAnswer, fileDrawing}
 use Rattle.print.specs.Text.{sheet, zeros, picture, refusal, tooLong, printed, textOf, unreadable, replyOf, writtenOver}
@@ -34,7 +34,7 @@ module _ (file drawn : List ℕ) (a : Answer) (l : length file ≤ 4096) (h : Dr
       ∙ ap (λ (t : Bool). cond t (picture (painted file)) (refusal (a .number) (valueOf a))) e
 
   pub text-drawn : isDone a ≡ true → textOf file ≡ picture drawn
-  text-drawn e = text-told true e ∙ ap picture (sym (drawn-whole (fileDrawing sheet file) zeros a drawn h (ap isDone (sym (h .tells)) ∙ e)))
+  text-drawn e = text-told true e ∙ ap picture (sym (drawn-whole (telling (fileDrawing sheet file)) zeros a drawn h (ap isDone (sym (h .tells)) ∙ e)))
 
   pub text-refused : (n at : ℕ) → isDone a ≡ false → n ≡ a .number → at ≡ valueOf a → textOf file ≡ refusal n at
   text-refused n at e m o = text-told false e ∙ ap₂ refusal (sym m) (sym o)

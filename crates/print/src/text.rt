@@ -104,7 +104,8 @@ pub fn text(file: &[u8], out: &mut [u8; 136]) -> usize
         height: 8,
         pitch: 16,
     };
-    let reply = drawing::draw_file(&mut sheet, shape, file);
+    let drawn = drawing::draw_file(&mut sheet, shape, file);
+    let reply = drawn.reply;
     if !reply.is_done() {
         return put_refusal(out, reply.number(), reply.value());
     }

@@ -29,10 +29,14 @@ is-done-requires c κs = search needs
 of-file-requires : tie.Need-of-file-requires
 of-file-requires c κs = search needs
 
+undrawn-requires : tie.Need-undrawn-requires
+undrawn-requires c κs = search needs
+
 returns : tie.Need-returns
 returns c =
-    let asked = c .before .before in
-    no-sheet-file _ _ _ _ _ _ (asked .before .check .ensures) (asked .is-done .ensures) (c .before .if1 .taken) (c .of-file .ensures)
+    let asked = c .before .before .before in
+    no-sheet-file _ _ _ _ _ _ _ (asked .before .check .ensures) (asked .is-done .ensures) (c .before .before .if1 .taken) (c .before .of-file .ensures)
+    (c .undrawn .ensures)
 
 check-requires-2 : tie.Need-check-requires-2
 check-requires-2 c κs = search needs
@@ -40,13 +44,17 @@ check-requires-2 c κs = search needs
 is-done-requires-2 : tie.Need-is-done-requires-2
 is-done-requires-2 c κs = search needs
 
+undrawn-requires-2 : tie.Need-undrawn-requires-2
+undrawn-requires-2 c κs = search needs
+
 returns-2 : tie.Need-returns-2
 returns-2 c =
-    let asked = c .before in
+    let asked = c .before .before in
     let checked = asked .before in
     let sized = checked .before in
     let a = sized .before .before .before .before .before .args in
-    file-refused (a .shape) (now (a .file)) (now (a .sheet)) (fitted sized) _ (checked .check2 .ensures) (no _ _ (tested asked) (c .if2 .taken))
+    file-refused (a .shape) (now (a .file)) (now (a .sheet)) (fitted sized) _ (checked .check2 .ensures) (no _ _ (tested asked) (c .before .if2 .taken))
+    _ (c .undrawn2 .ensures)
 
 draw-records-requires : tie.Need-draw-records-requires
 draw-records-requires c κs =
@@ -65,7 +73,7 @@ returns-3 c =
     let sized = checked .before in
     let a = sized .before .before .before .before .before .args in
     file-drawn (a .shape) (now (a .file)) (now (a .sheet)) (fitted sized) _ (checked .check2 .ensures) (yes _ _ (tested asked) (accepted .if2 .left))
-    _ (called .draw-records .ensures)
+    _ _ (called .draw-records .ensures .0) (called .draw-records .ensures .1)
 
 pub draw-file-spec : {M : Type 1} → statement M
 draw-file-spec =
@@ -74,9 +82,11 @@ draw-file-spec =
     check-requires
     is-done-requires
     of-file-requires
+    undrawn-requires
     returns
     check-requires-2
     is-done-requires-2
+    undrawn-requires-2
     returns-2
     draw-records-requires
     same-length
