@@ -47,7 +47,7 @@ module _ (k : Shape) (pitch : ℕ) (file other : List ℕ) (rs qs : List Record)
     (F : Fills k a b i p s z u) (G : Fills (withPitch k pitch) c b i q t w v) (d : isDone z ≡ true) (d′ : isDone w ≡ true) where
   on-alike : paintRecords k rs lent ≡ paintRecords k qs lent → (z ≡ w) × Alike k pitch u v
   on-alike n =
-      let one = carried _ (file-any-pitch other) k pitch lent back y t alike g in
+      let one = carried (λ k. fileDrawing k other) (file-any-pitch other) k pitch lent back y t alike g in
       let l = files-left k file other lent rs qs e f x y s (one .bytes) h (one .drawn) n in
       same-territory-any-pitch (subst (λ (s : List ℕ). Alike k pitch s t) (sym l) (one .alike)) reach F G d d′
 

@@ -1,10 +1,10 @@
 -- What the callee told, told on to C: the number, and the value.
-use Prim.Native.Nat.{ℕ, _<_}
+use Prim.Native.Nat.{ℕ, _-_, _<_}
 use mathlib.Core.Path.{_≡_, refl, sym, subst, ap, ap₂, _∙_}
 use mathlib.Core.List.{List, [], _∷_}
-use mathlib.Core.Bool.{Bool, true, false}
+use mathlib.Core.Bool.{Bool, true, false, cond}
 use native.Mathlib.Omega.{arith}
-use lib.Dec.{eqb}
+use lib.Dec.{eqb, ltb}
 use lib.IntN.{ℤ, pos}
 use lib.ListN.{length}
 use mir.Syntax.{w32}
@@ -12,13 +12,15 @@ use mir.Val.{SFits, toZ, ofZ}
 use mir.Facts.{toZ-ofZ}
 use Rattle.sheet.specs.Sheet.{cell}
 use Rattle.sheet.specs.Reply as reply
-use Rattle.sheet.specs.Reply.{Answer, number, refuse, unless, valueOf, settled}
-use Rattle.sheet.specs.Drawing.{ifSheet, Drawing, Draws}
+use Rattle.sheet.specs.Reply.{Answer, number, refuse, withBox, unless, isDone, valueOf, settled}
+use Rattle.sheet.specs.Repaint.{nothing}
+use Rattle.sheet.specs.Drawing.{ifSheet, boxAll, Drawing, Draws}
 use Rattle.sheet.specs.Inner.{fits}
 use Rattle.sheet.specs.declared.Cell.{Cell}
 use Rattle.sheet.specs.declared.Shape.{Shape}
 use Rattle.sheet.specs.declared.Figure.{Figure}
 use Rattle.sheet.specs.declared.Refusal.{Refusal}
+use Rattle.sheet.specs.declared.repaint.Rectangle.{Rectangle}
 use Rattle.sheet.proofs.Lent.{sheet-cases}
 use Rattle.sheet.proofs.Unique.{number-not-0}
 use Rattle.line.specs.Listing.{listAnswer, ListsInto}
@@ -26,7 +28,7 @@ use Rattle.fill.specs.Fill.{fillAnswer, Fills, Spares}
 use Rattle.record.specs.Writing.{writeAnswer, Writes}
 use Rattle.record.specs.Rescue.{Lent, Rescues}
 use Rattle.record.proofs.Written.{writes-as}
-use Rattle.pistonwool.specs.Told.{numbered, counted, twoCounted, Keeps}
+use Rattle.pistonwool.specs.Told.{numbered, counted, twoCounted, Keeps, boxNumbers, DrawsInto}
 
 -- a cell, as the machine reads its coordinates back from their bits
 pub cell-back : (x y : ℤ) → SFits w32 x → SFits w32 y → cell (toZ w32 (ofZ w32 x)) (toZ w32 (ofZ w32 y)) ≡ cell x y
@@ -52,10 +54,44 @@ number-told : (a : Answer) → Tells None a → a ≡ numbered (a .number)
 number-told _ (Tells.refused r) = refl
 number-told _ (Tells.done v e) = ap reply.done e
 
-pub draws-number : (d : Drawing) (s t : List ℕ) (a : Answer) (n : ℕ) → Draws d s a t → Tells None (d .answer (length s)) → n ≡ a .number → Draws d s (numbered n) t
-draws-number d s t a n h p e =
-    let q = number-told a (subst (Tells None) (sym (h .tells)) p) in
-    subst (λ (b : Answer). Draws d s b t) (q ∙ ap numbered (sym e)) h
+-- the four numbers, each found by itself
+pub box-written : (a : Answer) (r : Rectangle) (s : List ℕ) (x y w h : ℕ) → isDone a ≡ true
+    → x ≡ cond (ltb (r .left) (r .right)) (r .left) 0 → y ≡ cond (ltb (r .left) (r .right)) (r .top) 0
+    → w ≡ cond (ltb (r .left) (r .right)) (r .right - r .left) 0 → h ≡ cond (ltb (r .left) (r .right)) (r .bottom - r .top) 0
+    → x ∷ y ∷ w ∷ h ∷ [] ≡ settled a (boxNumbers r) s
+box-written a r s x y w h d ex ey ew eh = (λ i. ex i ∷ ey i ∷ ew i ∷ eh i ∷ []) ∙ by (ltb (r .left) (r .right)) ∙ sym (simp d)
+  where
+    by : (t : Bool)
+        → cond t (r .left) 0 ∷ cond t (r .top) 0 ∷ cond t (r .right - r .left) 0 ∷ cond t (r .bottom - r .top) 0 ∷ []
+        ≡ cond t (r .left ∷ r .top ∷ (r .right - r .left) ∷ (r .bottom - r .top) ∷ []) (0 ∷ 0 ∷ 0 ∷ 0 ∷ [])
+    by true = refl
+    by false = refl
+
+-- a drawing's answer, told with its rectangle
+module _ (d : Drawing) (s t : List ℕ) (a : Answer) (h : Draws d s a t) where
+  told-with : (b : Answer) → d .answer (length s) ≡ b → a ≡ withBox b (a .box)
+  told-with b e =
+      let x = settled (d .answer (length s)) (boxAll (d .shape) (d .figures)) nothing in
+      let told : a ≡ withBox (d .answer (length s)) x = h .tells in
+      let same : x ≡ a .box = sym (ap (λ (o : Answer). o .box) told) in
+      told ∙ (λ i. withBox (e i) (same i))
+
+  -- and its four numbers
+  pub into : (b : Answer) (before after : List ℕ) → d .answer (length s) ≡ b → after ≡ settled a (boxNumbers (a .box)) before → DrawsInto d s b t before after
+  into b before after e f =
+      let q = told-with b e in
+      record {
+        rectangle = a .box;
+        draws = subst (λ (o : Answer). Draws d s o t) q h;
+        boxes = f ∙ ap (λ (o : Answer). settled o (boxNumbers (a .box)) before) q;
+      }
+
+  pub same-number : a .number ≡ d .answer (length s) .number
+  same-number = ap (λ (o : Answer). o .number) (h .tells)
+
+  pub draws-number : (n : ℕ) (before after : List ℕ) → Tells None (d .answer (length s)) → n ≡ a .number
+      → after ≡ settled a (boxNumbers (a .box)) before → DrawsInto d s (numbered n) t before after
+  draws-number n before after p e f = into (numbered n) before after (number-told (d .answer (length s)) p ∙ ap numbered (sym (e ∙ same-number))) f
 
 -- with one: C is told the number and, where it is 0, the value
 pub record Value (v : List ℤ) : Type 0 where
@@ -85,14 +121,16 @@ one-small _ (Tells.done v p) = subst (λ (n : ℕ). n < 4294967296) (sym (ap (λ
 count-told : (a : Answer) → Tells One a → (n v before : ℕ) → n ≡ a .number → v ≡ settled a (valueOf a) before → (a ≡ counted n v) × Keeps n before v
 count-told a t = value-told a (as-value a t)
 
-pub draws-small : (d : Drawing) (s t : List ℕ) (a : Answer) → Draws d s a t → Tells One (d .answer (length s)) → valueOf a < 4294967296
-draws-small d s t a h p = one-small a (subst (Tells One) (sym (h .tells)) p)
+module _ (d : Drawing) (s t : List ℕ) (a : Answer) (h : Draws d s a t) (p : Tells One (d .answer (length s))) where
+  pub draws-small : valueOf a < 4294967296
+  draws-small = subst (λ (n : ℕ). n < 4294967296) (sym (ap valueOf (h .tells))) (one-small (d .answer (length s)) p)
 
-pub draws-count : (d : Drawing) (s t : List ℕ) (a : Answer) (n v before : ℕ) → Draws d s a t → Tells One (d .answer (length s))
-    → (n ≡ a .number) × (v ≡ settled a (valueOf a) before) → Draws d s (counted n v) t × Keeps n before v
-draws-count d s t a n v before h p e =
-    let q = count-told a (subst (Tells One) (sym (h .tells)) p) n v before (e .0) (e .1) in
-    (subst (λ (b : Answer). Draws d s b t) (q .0) h, q .1)
+  pub draws-count : (n v cells : ℕ) (before after : List ℕ) → (n ≡ a .number) × (v ≡ settled a (valueOf a) cells)
+      → after ≡ settled a (boxNumbers (a .box)) before → DrawsInto d s (counted n v) t before after × Keeps n cells v
+  draws-count n v cells before after e f =
+      let told : v ≡ settled (d .answer (length s)) (valueOf (d .answer (length s))) cells = e .1 ∙ ap (λ (o : Answer). settled o (valueOf o) cells) (h .tells) in
+      let q = count-told (d .answer (length s)) p n v cells (e .0 ∙ same-number d s t a h) told in
+      (into d s t a h (counted n v) before after (q .0) f, q .1)
 
 -- the same of a fill
 module _ {k : Shape} {a : Cell} {b i p : ℕ} {s t : List ℕ} {r : Answer} (h : Fills k a b i p s r t) (q : Tells One (fillAnswer k a p (h .territory) (length s))) where

@@ -1,12 +1,12 @@
 // Figures in cells.
 ghost use mathlib.Core.List.{[], _∷_};
 ghost use Rattle.sheet.specs.Sheet.{cell};
-ghost use Rattle.sheet.specs.Drawing.{Draws};
 ghost use Rattle.line.specs.Draw.{lineDrawing};
 ghost use Rattle.line.specs.Listing.{ListsInto};
 ghost use Rattle.ring.specs.Draw.{ellipseDrawing};
 ghost use Rattle.curve.specs.Draw.{curveDrawing};
-ghost use Rattle.pistonwool.specs.Told.{shapeOf, numbered, counted, Keeps};
+ghost use Rattle.pistonwool.specs.Told.{shapeOf, numbered, counted, Keeps, DrawsInto};
+use crate::tell_box;
 use crate::tell_cells;
 use sheet::Cell;
 use sheet::Shape;
@@ -24,9 +24,10 @@ pub extern "C" fn pw_line(
     x1: i32,
     y1: i32,
     cells: &mut u32,
+    told: &mut [u32; 4],
 ) -> u32
-    ensures { λ d. ⌜ Draws (lineDrawing (shapeOf width height pitch) ink (cell x0 y0) (cell x1 y1))
-        (now (sheet .entry)) (counted d (now (cells .exit))) (now (sheet .exit)) ⌝ }
+    ensures { λ d. ⌜ DrawsInto (lineDrawing (shapeOf width height pitch) ink (cell x0 y0) (cell x1 y1))
+        (now (sheet .entry)) (counted d (now (cells .exit))) (now (sheet .exit)) (now (told .entry)) (now (told .exit)) ⌝ }
     ensures { λ d. ⌜ Keeps d (now (cells .entry)) (now (cells .exit)) ⌝ }
 {
     let shape = Shape {
@@ -36,7 +37,10 @@ pub extern "C" fn pw_line(
     };
     let from = Cell { x: x0, y: y0 };
     let to = Cell { x: x1, y: y1 };
-    tell_cells(line::draw_line(sheet, shape, ink, from, to), cells)
+    let drawn = line::draw_line(sheet, shape, ink, from, to);
+    tell_box(drawn, told);
+    let reply = drawn.reply;
+    tell_cells(reply, cells)
 }
 
 // Draws an ellipse; a circle of radius r is that of semi-axes r and r.
@@ -51,9 +55,10 @@ pub extern "C" fn pw_ellipse(
     y: i32,
     a: u32,
     b: u32,
+    told: &mut [u32; 4],
 ) -> u32
-    ensures { λ d. ⌜ Draws (ellipseDrawing (shapeOf width height pitch) ink (cell x y) a b)
-        (now (sheet .entry)) (numbered d) (now (sheet .exit)) ⌝ }
+    ensures { λ d. ⌜ DrawsInto (ellipseDrawing (shapeOf width height pitch) ink (cell x y) a b)
+        (now (sheet .entry)) (numbered d) (now (sheet .exit)) (now (told .entry)) (now (told .exit)) ⌝ }
 {
     let shape = Shape {
         width,
@@ -61,7 +66,9 @@ pub extern "C" fn pw_ellipse(
         pitch,
     };
     let centre = Cell { x, y };
-    let reply = ring::draw_ellipse(sheet, shape, ink, centre, a, b);
+    let drawn = ring::draw_ellipse(sheet, shape, ink, centre, a, b);
+    tell_box(drawn, told);
+    let reply = drawn.reply;
     reply.number()
 }
 
@@ -80,9 +87,10 @@ pub extern "C" fn pw_curve(
     x2: i32,
     y2: i32,
     s: u32,
+    told: &mut [u32; 4],
 ) -> u32
-    ensures { λ d. ⌜ Draws (curveDrawing (shapeOf width height pitch) ink (cell x0 y0 ∷ cell x1 y1 ∷ cell x2 y2 ∷ []) s)
-        (now (sheet .entry)) (numbered d) (now (sheet .exit)) ⌝ }
+    ensures { λ d. ⌜ DrawsInto (curveDrawing (shapeOf width height pitch) ink (cell x0 y0 ∷ cell x1 y1 ∷ cell x2 y2 ∷ []) s)
+        (now (sheet .entry)) (numbered d) (now (sheet .exit)) (now (told .entry)) (now (told .exit)) ⌝ }
 {
     let shape = Shape {
         width,
@@ -92,7 +100,9 @@ pub extern "C" fn pw_curve(
     let p0 = Cell { x: x0, y: y0 };
     let p1 = Cell { x: x1, y: y1 };
     let p2 = Cell { x: x2, y: y2 };
-    let reply = curve::draw_curve(sheet, shape, ink, p0, p1, p2, s);
+    let drawn = curve::draw_curve(sheet, shape, ink, p0, p1, p2, s);
+    tell_box(drawn, told);
+    let reply = drawn.reply;
     reply.number()
 }
 
@@ -113,9 +123,10 @@ pub extern "C" fn pw_cubic(
     x3: i32,
     y3: i32,
     s: u32,
+    told: &mut [u32; 4],
 ) -> u32
-    ensures { λ d. ⌜ Draws (curveDrawing (shapeOf width height pitch) ink (cell x0 y0 ∷ cell x1 y1 ∷ cell x2 y2 ∷ cell x3 y3 ∷ []) s)
-        (now (sheet .entry)) (numbered d) (now (sheet .exit)) ⌝ }
+    ensures { λ d. ⌜ DrawsInto (curveDrawing (shapeOf width height pitch) ink (cell x0 y0 ∷ cell x1 y1 ∷ cell x2 y2 ∷ cell x3 y3 ∷ []) s)
+        (now (sheet .entry)) (numbered d) (now (sheet .exit)) (now (told .entry)) (now (told .exit)) ⌝ }
 {
     let shape = Shape {
         width,
@@ -126,7 +137,9 @@ pub extern "C" fn pw_cubic(
     let p1 = Cell { x: x1, y: y1 };
     let p2 = Cell { x: x2, y: y2 };
     let p3 = Cell { x: x3, y: y3 };
-    let reply = curve::draw_cubic(sheet, shape, ink, p0, p1, p2, p3, s);
+    let drawn = curve::draw_cubic(sheet, shape, ink, p0, p1, p2, p3, s);
+    tell_box(drawn, told);
+    let reply = drawn.reply;
     reply.number()
 }
 

@@ -1,8 +1,10 @@
 // What C and Rust link: the drawings on numbers and slices, the pen, writing records and rescuing a damaged file.
 // Each answers a number of the table; but a pen that is asked answers 1 for a cell and 0 for finished.
 ghost use mathlib.Core.Path.{_≡_};
-ghost use Prim.Native.Nat.{_<_};
-ghost use Rattle.sheet.specs.Reply.{told, valueOf, settled};
+ghost use mathlib.Core.Bool.{cond};
+ghost use Prim.Native.Nat.{_-_, _<_};
+ghost use Rattle.sheet.specs.Reply.{told, toldDrawn, valueOf, settled};
+ghost use Rattle.pistonwool.specs.Told.{boxNumbers};
 
 mod cells;
 mod file;
@@ -23,6 +25,7 @@ pub use metres::pw_line_metres;
 pub use pen::pw_pen_begin;
 pub use pen::pw_pen_next;
 pub use rescuing::pw_rescue;
+use sheet::Drawn;
 use sheet::Reply;
 pub use territory::pw_fill;
 pub use writing::pw_write_circle;
@@ -30,6 +33,40 @@ pub use writing::pw_write_cubic;
 pub use writing::pw_write_curve;
 pub use writing::pw_write_ellipse;
 pub use writing::pw_write_line;
+
+// The one or the other; a less b, or 0 where that is below 0.
+fn chosen(first: bool, a: u32, b: u32) -> u32
+    ensures { λ r. ⌜ r ≡ cond first a b ⌝ }
+{
+    if first { a } else { b }
+}
+
+fn less(a: u32, b: u32) -> u32
+    ensures { λ r. ⌜ r ≡ a - b ⌝ }
+{
+    if b < a { a - b } else { 0 }
+}
+
+// Tells the rectangle of a drawing that is done: x, y, width and height, all 0 for none.
+fn tell_box(drawn: Drawn, told: &mut [u32; 4])
+    ensures { λ _. ⌜ now (told .exit) ≡ settled (toldDrawn drawn) (boxNumbers (drawn .rectangle)) (now (told .entry)) ⌝ }
+{
+    let reply = drawn.reply;
+    if !reply.is_done() {
+        return;
+    }
+    let left = drawn.rectangle.left;
+    let top = drawn.rectangle.top;
+    let right = drawn.rectangle.right;
+    let bottom = drawn.rectangle.bottom;
+    let some = left < right;
+    *told = [
+        chosen(some, left, 0),
+        chosen(some, top, 0),
+        chosen(some, less(right, left), 0),
+        chosen(some, less(bottom, top), 0),
+    ];
+}
 
 // Tells a reply that counts cells: its number, and how many in cells where it is done.
 fn tell_cells(reply: Reply, cells: &mut u32) -> u32

@@ -1,8 +1,8 @@
 // Figures in metres.
-ghost use Rattle.sheet.specs.Drawing.{Draws};
 ghost use Rattle.survey.specs.declared.Metres.the-variants as metres;
 ghost use Rattle.drawing.specs.Metres.{metresDrawing};
-ghost use Rattle.pistonwool.specs.Told.{shapeOf, surveyOf, numbered, counted, Keeps};
+ghost use Rattle.pistonwool.specs.Told.{shapeOf, surveyOf, numbered, counted, Keeps, DrawsInto};
+use crate::tell_box;
 use crate::tell_cells;
 use sheet::Shape;
 use survey::Metres;
@@ -24,9 +24,10 @@ pub extern "C" fn pw_line_metres(
     x1: f64,
     y1: f64,
     cells: &mut u32,
+    told: &mut [u32; 4],
 ) -> u32
-    ensures { λ d. ⌜ Draws (metresDrawing (shapeOf width height pitch) ink (surveyOf east north size) (metres.Line x0 y0 x1 y1))
-        (now (sheet .entry)) (counted d (now (cells .exit))) (now (sheet .exit)) ⌝ }
+    ensures { λ d. ⌜ DrawsInto (metresDrawing (shapeOf width height pitch) ink (surveyOf east north size) (metres.Line x0 y0 x1 y1))
+        (now (sheet .entry)) (counted d (now (cells .exit))) (now (sheet .exit)) (now (told .entry)) (now (told .exit)) ⌝ }
     ensures { λ d. ⌜ Keeps d (now (cells .entry)) (now (cells .exit)) ⌝ }
 {
     let shape = Shape {
@@ -36,10 +37,10 @@ pub extern "C" fn pw_line_metres(
     };
     let survey = Survey { east, north, size };
     let figure = Metres::Line(x0, y0, x1, y1);
-    tell_cells(
-        drawing::draw_metres(sheet, shape, ink, survey, figure),
-        cells,
-    )
+    let drawn = drawing::draw_metres(sheet, shape, ink, survey, figure);
+    tell_box(drawn, told);
+    let reply = drawn.reply;
+    tell_cells(reply, cells)
 }
 
 // Draws an ellipse; a circle as in cells.
@@ -57,9 +58,10 @@ pub extern "C" fn pw_ellipse_metres(
     y: f64,
     a: f64,
     b: f64,
+    told: &mut [u32; 4],
 ) -> u32
-    ensures { λ d. ⌜ Draws (metresDrawing (shapeOf width height pitch) ink (surveyOf east north size) (metres.Ellipse x y a b))
-        (now (sheet .entry)) (numbered d) (now (sheet .exit)) ⌝ }
+    ensures { λ d. ⌜ DrawsInto (metresDrawing (shapeOf width height pitch) ink (surveyOf east north size) (metres.Ellipse x y a b))
+        (now (sheet .entry)) (numbered d) (now (sheet .exit)) (now (told .entry)) (now (told .exit)) ⌝ }
 {
     let shape = Shape {
         width,
@@ -68,6 +70,8 @@ pub extern "C" fn pw_ellipse_metres(
     };
     let survey = Survey { east, north, size };
     let figure = Metres::Ellipse(x, y, a, b);
-    let reply = drawing::draw_metres(sheet, shape, ink, survey, figure);
+    let drawn = drawing::draw_metres(sheet, shape, ink, survey, figure);
+    tell_box(drawn, told);
+    let reply = drawn.reply;
     reply.number()
 }

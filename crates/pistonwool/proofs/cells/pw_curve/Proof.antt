@@ -2,6 +2,7 @@
 use mathlib.Core.List.{[], _∷_}
 use borrow.Author.Needs.{needs}
 use Rattle.sheet.proofs.Draws.{draws-as}
+use Rattle.sheet.specs.Sheet.{cell}
 use Rattle.curve.specs.Draw.{curveDrawing}
 use Rattle.pistonwool.specs.Told.{shapeOf}
 use Rattle.pistonwool.proofs.Forms.{curve-tells}
@@ -12,6 +13,9 @@ use Rattle.pistonwool.proofs.cells.pw_curve.Tie as tie
 draw-curve-requires : tie.Need-draw-curve-requires
 draw-curve-requires c κs = search needs
 
+tell-box-requires : tie.Need-tell-box-requires
+tell-box-requires c κs = search needs
+
 number-requires : tie.Need-number-requires
 number-requires c κs = search needs
 
@@ -20,16 +24,16 @@ same-length c = search needs
 
 returns : tie.Need-returns
 returns c =
-    let called = c .before .before .before in
+    let called = c .before .before .before .before .before in
     let start = called .before .before .before in
     let a = start .args in
     let f = start .fits in
     let p0 = cell-back (a .x0) (a .y0) (f .x0) (f .y0) in
     let p1 = cell-back (a .x1) (a .y1) (f .x1) (f .y1) in
     let p2 = cell-back (a .x2) (a .y2) (f .x2) (f .y2) in
-    draws-number _ _ _ _ _
-    (draws-as _ _ _ _ _ (λ i. curveDrawing (shapeOf (a .width) (a .height) (a .pitch)) (a .ink) (p0 i ∷ p1 i ∷ p2 i ∷ []) (a .s)) (called .draw-curve .ensures))
-    (curve-tells _ _ _ _) (c .number .ensures)
+    draws-number (curveDrawing (shapeOf (a .width) (a .height) (a .pitch)) (a .ink) (cell (a .x0) (a .y0) ∷ cell (a .x1) (a .y1) ∷ cell (a .x2) (a .y2) ∷ []) (a .s)) _ _ _
+    (draws-as (curveDrawing (shapeOf (a .width) (a .height) (a .pitch)) (a .ink) _ (a .s)) _ (curveDrawing (shapeOf (a .width) (a .height) (a .pitch)) (a .ink) (cell (a .x0) (a .y0) ∷ cell (a .x1) (a .y1) ∷ cell (a .x2) (a .y2) ∷ []) (a .s)) _ _ (λ i. curveDrawing (shapeOf (a .width) (a .height) (a .pitch)) (a .ink) (p0 i ∷ p1 i ∷ p2 i ∷ []) (a .s)) (called .draw-curve .ensures))
+    _ _ _ (curve-tells _ _ _ _) (c .number .ensures) (c .before .tell-box .ensures)
 
 pub pw-curve-spec : {M : Type 1} → statement M
-pw-curve-spec = tie.close (tie.spec draw-curve-requires number-requires same-length returns)
+pw-curve-spec = tie.close (tie.spec draw-curve-requires tell-box-requires number-requires same-length returns)
