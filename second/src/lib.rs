@@ -8,6 +8,7 @@ mod chance_fill;
 mod chance_rescue;
 mod chance_write;
 pub mod crossing;
+pub mod figure;
 pub mod file;
 pub mod ground;
 pub mod guard;

@@ -1,8 +1,6 @@
 //! Second programs that are wrong on purpose: a comparison that is worth anything catches each.
-use crate::rule::{
-    asked, bad_fields, cells_from, cubic, in_column, line_cells, no_sheet, on_circle, on_ellipse, place, refusal, Bad,
-    Cell, Figure, Rules, Shape, Sheet, Told,
-};
+use crate::figure::{cells_from, cubic, in_column, line_cells, on_circle, on_ellipse};
+use crate::rule::{asked, bad_fields, no_sheet, place, refusal, Bad, Cell, Figure, Rules, Shape, Sheet, Told};
 use crate::teeth_fill::wrong_fills;
 use crate::teeth_rescue::wrong_rescuers;
 use crate::teeth_write::wrong_writers;

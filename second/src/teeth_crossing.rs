@@ -1,5 +1,6 @@
 //! Programs whose boundaries leak.
-use crate::rule::{in_column, line_cells, Cell, Rules};
+use crate::figure::{in_column, line_cells};
+use crate::rule::{Cell, Rules};
 use crate::teeth::{nearest_in_both, sloped, without_last};
 use crate::teeth_fill::{by_corners, round_the_end, through_padding};
 

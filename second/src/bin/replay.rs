@@ -3,8 +3,9 @@
 //!
 //!     replay                prints what examples/replay.txt has
 //!     replay --old-twice    the old kit in the library's place: this must fail
+use second::figure::cells_from;
 use second::native::{self, Cells, Lent};
-use second::rule::{cells_from, Figure, Rules, Shape, Sheet};
+use second::rule::{Figure, Rules, Shape, Sheet};
 use std::process::ExitCode;
 
 const WIDTH: usize = 24;
