@@ -45,16 +45,17 @@ impl Again {
         same("count", &[*filled], &[self.file.len() as u64])
     }
 
-    /// What is left when all is written, and then drawn: the buffer begins with the file, and the sheet is as the library draws
-    /// the file that was read. How the second program draws a file is compared by itself.
+    /// What is left when all is written, and then drawn: the buffer begins with the file, and sheet and rectangle are as the
+    /// library draws the file that was read. How the second program draws a file is compared by itself.
     pub fn by_rules(&self, rules: &Rules, sheet: &mut Sheet, buffer: &mut [u8]) -> Reply {
         buffer.iter_mut().zip(&self.file).for_each(|(byte, new)| *byte = *new);
         let Size { width, height, pitch, .. } = self.size;
-        native::file(Lent { bytes: sheet.bytes, width, height, pitch }, &self.file, &mut 0);
+        let (lent, mut rectangle) = (Lent { bytes: sheet.bytes, width, height, pitch }, [0; 4]);
+        native::file(lent, &self.file, &mut 0, &mut rectangle);
         let mut records = 0;
         match rules.read(&self.file, |_, _| records += 1) {
-            Ok(()) => Reply::done(Some(records)),
-            Err((number, offset)) => Reply { number, value: Some(offset as u64) },
+            Ok(()) => Reply { rectangle: Some(rectangle), ..Reply::done(Some(records)) },
+            Err((number, offset)) => rules.refused_file(number, offset),
         }
     }
 

@@ -59,7 +59,7 @@ impl Kit {
 
     pub fn draw(&self, sheet: &mut Sheet, figure: &Figure) -> u32 {
         match self {
-            Kit::Library => native::draw(lent(sheet), BOUNDARY, narrowed(figure), &mut 0),
+            Kit::Library => native::draw(lent(sheet), BOUNDARY, narrowed(figure), &mut 0, &mut [0; 4]),
             Kit::Program(rules) => rules.draw(sheet, BOUNDARY, figure).number,
         }
     }

@@ -1,12 +1,14 @@
 //! Figures in cells: which cells each has.
+use crate::repaint::Painted;
 use crate::rule::{Cell, Figure, Rules, Shape, Sheet};
+use std::mem::replace;
 
 impl Rules {
-    /// Inks the figure's cells on the sheet; of a line, their number.
-    pub fn paint(&self, sheet: &mut Sheet, ink: u8, figure: &Figure) -> Option<u64> {
-        let places = self.places(sheet.shape, figure);
-        places.iter().for_each(|&place| sheet.bytes[place] = ink);
-        matches!(figure, Figure::Line(..)).then_some(places.len() as u64)
+    /// Inks the figure's cells on the sheet.
+    pub fn paint(&self, sheet: &mut Sheet, ink: u8, figure: &Figure) -> Painted {
+        let places = self.places(sheet.shape, figure).into_iter();
+        let set = places.map(|place| (place, replace(&mut sheet.bytes[place], ink))).collect();
+        Painted { figure: figure.clone(), ink, set }
     }
 
     /// The bytes of the figure's cells on a sheet of this shape.

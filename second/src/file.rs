@@ -1,4 +1,5 @@
 //! The record file.
+use crate::repaint::Painted;
 use crate::rule::{Bad, Figure, Reply, Rules, Sheet};
 
 /// Where the fields of a record stand that are not its figure's.
@@ -63,7 +64,7 @@ impl Rules {
     /// Draws a file; the value is its number of records, or the offset of the field that is named.
     pub fn draw_file(&self, sheet: &mut Sheet, file: &[u8]) -> Reply {
         if let Some(number) = (self.no_sheet)(sheet) {
-            return Reply { number, value: Some(0) };
+            return self.refused_file(number, 0);
         }
         let mut records = Vec::new();
         let read = self.read(file, |ink, figure| {
@@ -73,12 +74,10 @@ impl Rules {
             records.push((ink, figure));
         });
         if let Err((number, offset)) = read {
-            return Reply { number, value: Some(offset as u64) };
+            return self.refused_file(number, offset);
         }
-        for (ink, figure) in &records {
-            self.paint(sheet, *ink, figure);
-        }
-        Reply::done(Some(records.len() as u64))
+        let painted: Vec<Painted> = records.iter().map(|(ink, figure)| self.paint(sheet, *ink, figure)).collect();
+        self.done(sheet.shape, Some(records.len() as u64), &painted)
     }
 }
 

@@ -17,6 +17,7 @@ pub mod metres;
 pub mod native;
 pub mod pen;
 pub mod random;
+pub mod repaint;
 pub mod rescue;
 pub mod rescued;
 pub mod rule;

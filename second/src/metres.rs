@@ -32,14 +32,14 @@ impl Rules {
     /// 1, 15, 6, then 7 for each field, then 3.
     pub fn draw_metres(&self, sheet: &mut Sheet, ink: u8, survey: Survey, figure: Metres) -> Reply {
         if let Some(number) = (self.no_sheet)(sheet) {
-            return Reply::refused(number);
+            return self.refused(number);
         }
         if !survey.is_sound() {
-            return Reply::refused(6);
+            return self.refused(6);
         }
         match self.in_cells(survey, figure) {
             Some(figure) => self.draw(sheet, ink, &figure),
-            None => Reply::refused(7),
+            None => self.refused(7),
         }
     }
 

@@ -1,17 +1,22 @@
 //! The proved library, as include/pistonwool.h declares it, behind functions that take slices.
 use crate::metres::{Metres, Survey};
+use crate::repaint::Rectangle;
 
 #[rustfmt::skip] // one function to a line or two, as the header has them
 mod declared {
+    use crate::repaint::Rectangle;
+
     extern "C" {
         pub fn pw_line(sheet: *mut u8, len: usize, width: u32, height: u32, pitch: u32, ink: u8,
-                       x0: i32, y0: i32, x1: i32, y1: i32, cells: *mut u32) -> u32;
+                       x0: i32, y0: i32, x1: i32, y1: i32, cells: *mut u32, rectangle: *mut Rectangle) -> u32;
         pub fn pw_ellipse(sheet: *mut u8, len: usize, width: u32, height: u32, pitch: u32, ink: u8,
-                          x: i32, y: i32, a: u32, b: u32) -> u32;
+                          x: i32, y: i32, a: u32, b: u32, rectangle: *mut Rectangle) -> u32;
         pub fn pw_curve(sheet: *mut u8, len: usize, width: u32, height: u32, pitch: u32, ink: u8,
-                        x0: i32, y0: i32, x1: i32, y1: i32, x2: i32, y2: i32, s: u32) -> u32;
+                        x0: i32, y0: i32, x1: i32, y1: i32, x2: i32, y2: i32, s: u32,
+                        rectangle: *mut Rectangle) -> u32;
         pub fn pw_cubic(sheet: *mut u8, len: usize, width: u32, height: u32, pitch: u32, ink: u8, x0: i32, y0: i32,
-                        x1: i32, y1: i32, x2: i32, y2: i32, x3: i32, y3: i32, s: u32) -> u32;
+                        x1: i32, y1: i32, x2: i32, y2: i32, x3: i32, y3: i32, s: u32,
+                        rectangle: *mut Rectangle) -> u32;
         pub fn pw_fill(sheet: *mut u8, len: usize, width: u32, height: u32, pitch: u32, x: i32, y: i32,
                        boundary: u8, territory: u8, work: *mut u32, places: usize, cells: *mut u32) -> u32;
         pub fn pw_list(xs: *mut i32, nx: usize, ys: *mut i32, ny: usize,
@@ -19,7 +24,7 @@ mod declared {
         pub fn pw_pen_begin(pen: *mut super::Pen, x0: i32, y0: i32, x1: i32, y1: i32) -> u32;
         pub fn pw_pen_next(pen: *mut super::Pen, x: *mut i32, y: *mut i32) -> u32;
         pub fn pw_file(sheet: *mut u8, len: usize, width: u32, height: u32, pitch: u32,
-                       file: *const u8, n: usize, value: *mut u64) -> u32;
+                       file: *const u8, n: usize, value: *mut u64, rectangle: *mut Rectangle) -> u32;
         pub fn pw_write_line(buffer: *mut u8, len: usize, filled: *mut u64, ink: u8,
                              x0: i32, y0: i32, x1: i32, y1: i32) -> u32;
         pub fn pw_write_circle(buffer: *mut u8, len: usize, filled: *mut u64, ink: u8, x: i32, y: i32, r: u32) -> u32;
@@ -33,9 +38,10 @@ mod declared {
                          numbers: *mut u64, nn: usize, copied: *mut u64, listed: *mut u64) -> u32;
         pub fn pw_line_metres(sheet: *mut u8, len: usize, width: u32, height: u32, pitch: u32, ink: u8,
                               east: f64, north: f64, size: f64,
-                              x0: f64, y0: f64, x1: f64, y1: f64, cells: *mut u32) -> u32;
+                              x0: f64, y0: f64, x1: f64, y1: f64, cells: *mut u32, rectangle: *mut Rectangle) -> u32;
         pub fn pw_ellipse_metres(sheet: *mut u8, len: usize, width: u32, height: u32, pitch: u32, ink: u8,
-                                 east: f64, north: f64, size: f64, x: f64, y: f64, a: f64, b: f64) -> u32;
+                                 east: f64, north: f64, size: f64, x: f64, y: f64, a: f64, b: f64,
+                                 rectangle: *mut Rectangle) -> u32;
     }
 }
 
@@ -73,40 +79,49 @@ pub struct Pen {
     pub told: u32,
 }
 
-pub fn draw(lent: Lent, ink: u8, figure: Cells, cells: &mut u32) -> u32 {
+pub fn draw(lent: Lent, ink: u8, figure: Cells, cells: &mut u32, rectangle: &mut Rectangle) -> u32 {
     let Lent { bytes, width: w, height: h, pitch } = lent;
     let (sheet, len) = (bytes.as_mut_ptr(), bytes.len());
     // SAFETY: the pointers are of slices and numbers lent to this call alone, with their lengths.
     unsafe {
         match figure {
-            Cells::Line([x0, y0, x1, y1]) => declared::pw_line(sheet, len, w, h, pitch, ink, x0, y0, x1, y1, cells),
-            Cells::Circle([x, y], r) => declared::pw_ellipse(sheet, len, w, h, pitch, ink, x, y, r, r),
-            Cells::Ellipse([x, y], a, b) => declared::pw_ellipse(sheet, len, w, h, pitch, ink, x, y, a, b),
+            Cells::Line([x0, y0, x1, y1]) => {
+                declared::pw_line(sheet, len, w, h, pitch, ink, x0, y0, x1, y1, cells, rectangle)
+            }
+            Cells::Circle([x, y], r) => declared::pw_ellipse(sheet, len, w, h, pitch, ink, x, y, r, r, rectangle),
+            Cells::Ellipse([x, y], a, b) => declared::pw_ellipse(sheet, len, w, h, pitch, ink, x, y, a, b, rectangle),
             Cells::Curve([x0, y0, x1, y1, x2, y2], s) => {
-                declared::pw_curve(sheet, len, w, h, pitch, ink, x0, y0, x1, y1, x2, y2, s)
+                declared::pw_curve(sheet, len, w, h, pitch, ink, x0, y0, x1, y1, x2, y2, s, rectangle)
             }
             Cells::Cubic([x0, y0, x1, y1, x2, y2, x3, y3], s) => {
-                declared::pw_cubic(sheet, len, w, h, pitch, ink, x0, y0, x1, y1, x2, y2, x3, y3, s)
+                declared::pw_cubic(sheet, len, w, h, pitch, ink, x0, y0, x1, y1, x2, y2, x3, y3, s, rectangle)
             }
         }
     }
 }
 
-pub fn draw_metres(lent: Lent, ink: u8, survey: Survey, figure: Metres, cells: &mut u32) -> u32 {
+pub fn draw_metres(
+    lent: Lent,
+    ink: u8,
+    survey: Survey,
+    figure: Metres,
+    cells: &mut u32,
+    rectangle: &mut Rectangle,
+) -> u32 {
     let Lent { bytes, width: w, height: h, pitch } = lent;
     let (sheet, len) = (bytes.as_mut_ptr(), bytes.len());
     let Survey { east, north, size } = survey;
     // SAFETY: as in `draw`.
     unsafe {
         match figure {
-            Metres::Line([x0, y0, x1, y1]) => {
-                declared::pw_line_metres(sheet, len, w, h, pitch, ink, east, north, size, x0, y0, x1, y1, cells)
-            }
+            Metres::Line([x0, y0, x1, y1]) => declared::pw_line_metres(
+                sheet, len, w, h, pitch, ink, east, north, size, x0, y0, x1, y1, cells, rectangle,
+            ),
             Metres::Circle([x, y, r]) => {
-                declared::pw_ellipse_metres(sheet, len, w, h, pitch, ink, east, north, size, x, y, r, r)
+                declared::pw_ellipse_metres(sheet, len, w, h, pitch, ink, east, north, size, x, y, r, r, rectangle)
             }
             Metres::Ellipse([x, y, a, b]) => {
-                declared::pw_ellipse_metres(sheet, len, w, h, pitch, ink, east, north, size, x, y, a, b)
+                declared::pw_ellipse_metres(sheet, len, w, h, pitch, ink, east, north, size, x, y, a, b, rectangle)
             }
         }
     }
@@ -136,11 +151,11 @@ pub fn pen_next(pen: &mut Pen, x: &mut i32, y: &mut i32) -> u32 {
     unsafe { declared::pw_pen_next(pen, x, y) }
 }
 
-pub fn file(lent: Lent, file: &[u8], value: &mut u64) -> u32 {
+pub fn file(lent: Lent, file: &[u8], value: &mut u64, rectangle: &mut Rectangle) -> u32 {
     let Lent { bytes, width: w, height: h, pitch } = lent;
     let (sheet, len) = (bytes.as_mut_ptr(), bytes.len());
     // SAFETY: as in `draw`; the library only reads the file.
-    unsafe { declared::pw_file(sheet, len, w, h, pitch, file.as_ptr(), file.len(), value) }
+    unsafe { declared::pw_file(sheet, len, w, h, pitch, file.as_ptr(), file.len(), value, rectangle) }
 }
 
 pub fn write(buffer: &mut [u8], filled: &mut u64, ink: u8, figure: Cells) -> u32 {

@@ -4,6 +4,7 @@ use crate::chance_rescue::MOST_MORE;
 use crate::guard::{Against, Guarded};
 use crate::native;
 use crate::random::Random;
+use crate::repaint::Painted;
 use crate::rescue::{found, taken, Rescued};
 use crate::rule::{Reply, Rules, Sheet};
 use crate::run::same;
@@ -24,7 +25,8 @@ impl Rescue {
             return Reply::refused(number);
         }
         let sound = found(rules, &self.file).into_iter().filter_map(|found| found.read.ok());
-        Reply::done(Some(sound.map(|(ink, figure)| rules.paint(sheet, ink, &figure)).count() as u64))
+        let painted: Vec<Painted> = sound.map(|(ink, figure)| rules.paint(sheet, ink, &figure)).collect();
+        rules.done(sheet.shape, Some(painted.len() as u64), &painted)
     }
 }
 
@@ -131,7 +133,8 @@ impl Room {
 #[cfg(test)]
 mod tests {
     use super::*;
-    use crate::case::Case;
+    use crate::case::{Case, Job};
+    use crate::rule::Figure;
     use crate::run;
 
     /// A line, 2 zeros, a record of an unknown kind, another line, and one byte.
@@ -152,7 +155,13 @@ mod tests {
         assert_ne!(left.accounted(&file), 34);
     }
 
-    /// By rules that draw nothing, every done rescue differs whose copy changes its sheet.
+    /// Whether a record that reads well has a cell on the sheet.
+    fn has_cells(rules: &Rules, rescue: &Rescue) -> bool {
+        let on_sheet = |(_, figure): &(u8, Figure)| !rules.places(rescue.size.shape(), figure).is_empty();
+        found(rules, &rescue.file).iter().any(|found| found.read.as_ref().is_ok_and(on_sheet))
+    }
+
+    /// By rules that draw nothing, every done rescue differs whose copy has a cell on its sheet.
     #[test]
     fn what_is_copied_is_drawn() {
         let right = Rules::document();
@@ -160,9 +169,11 @@ mod tests {
         let (mut room, mut drawn) = (run::Room::default(), 0);
         for seed in 0..2000 {
             let case = Case::rescue(seed);
-            let (_, changed) = room.compare(&right, &case).unwrap();
-            assert_eq!(room.compare(&wrong, &case).is_err(), changed, "{case}");
-            drawn += u32::from(changed);
+            let Job::Rescue(rescue) = &case.job else { unreachable!() };
+            let (number, _) = room.compare(&right, &case).unwrap();
+            let due = number == 0 && has_cells(&right, rescue);
+            assert_eq!(room.compare(&wrong, &case).is_err(), due, "{case}");
+            drawn += u32::from(due);
         }
         assert!(drawn >= 200, "only {drawn} copies were drawn");
     }

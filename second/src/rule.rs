@@ -1,6 +1,7 @@
 //! The rules of drawing, each replaceable, and the order of the refusals.
 use crate::figure::{cubic, line_cells, on_circle, on_ellipse};
 use crate::native::Fill;
+use crate::repaint::{Rectangle, Repainter};
 use crate::rescue::Rescuer;
 use crate::writer::Writer;
 
@@ -22,20 +23,22 @@ pub enum Figure {
     Cubic([Cell; 4], i64),
 }
 
-/// A number of the table, and the value that goes with it; where there is none, a lent value stays as it was.
+/// A number of the table, and the value and the rectangle that go with it; what is lent for one that is not there stays as it
+/// was.
 #[derive(Clone, Copy, Debug, PartialEq)]
 pub struct Reply {
     pub number: u32,
     pub value: Option<u64>,
+    pub rectangle: Option<Rectangle>,
 }
 
 impl Reply {
     pub fn done(value: Option<u64>) -> Reply {
-        Reply { number: 0, value }
+        Reply { number: 0, value, rectangle: None }
     }
 
     pub fn refused(number: u32) -> Reply {
-        Reply { number, value: None }
+        Reply { number, value: None, rectangle: None }
     }
 }
 
@@ -91,6 +94,8 @@ pub struct Rules {
     pub writer: Writer,
     /// What rescues a file.
     pub rescuer: Rescuer,
+    /// What tells which rectangle to repaint.
+    pub repainter: Repainter,
 }
 
 impl Rules {
@@ -114,17 +119,21 @@ impl Rules {
             offset: |record, place| record + place,
             writer: Writer::document(),
             rescuer: Rescuer::document(),
+            repainter: Repainter::document(),
         }
     }
 
+    /// 1, 15, then the figure's own; the value is a line's number of cells on the sheet.
     pub fn draw(&self, sheet: &mut Sheet, ink: u8, figure: &Figure) -> Reply {
         if let Some(number) = (self.no_sheet)(sheet) {
-            return Reply::refused(number);
+            return self.refused(number);
         }
-        match (self.refusal)(figure) {
-            Some((number, _)) => Reply::refused(number),
-            None => Reply::done(self.paint(sheet, ink, figure)),
+        if let Some((number, _)) = (self.refusal)(figure) {
+            return self.refused(number);
         }
+        let painted = self.paint(sheet, ink, figure);
+        let cells = matches!(figure, Figure::Line(..)).then_some(painted.set.len() as u64);
+        self.done(sheet.shape, cells, &[painted])
     }
 
     /// Lists a line's cells: 2, then 5.

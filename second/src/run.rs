@@ -5,6 +5,7 @@ use crate::guard::{Against, Guarded};
 use crate::native::{self, Cells, Lent};
 use crate::pen::{self, Call};
 use crate::random::Random;
+use crate::repaint::Rectangle;
 use crate::rescue::Rescued;
 use crate::rescued;
 use crate::rule::{Cell, Figure, Reply, Rules, Shape, Sheet};
@@ -19,15 +20,17 @@ pub struct Room {
     lists: [Guarded; 2],
     file: Guarded,
     value: Guarded,
+    rectangle: Guarded,
     pen: pen::Room,
     rescue: rescued::Room,
 }
 
-/// What a case leaves behind: reply, value or filled count, the sheet, the work slice, the buffer that is written to, the
-/// two lists, each call of a pen, and what a rescue was lent.
+/// What a case leaves behind: reply, value or filled count, the lent box, the sheet, the work slice, the buffer that is
+/// written to, the two lists, each call of a pen, and what a rescue was lent.
 struct Outcome {
     number: u32,
     value: u64,
+    rectangle: Rectangle,
     sheet: Vec<u8>,
     work: Vec<u32>,
     buffer: Vec<u8>,
@@ -46,6 +49,7 @@ impl Default for Room {
             lists: [places(), places()],
             file: Guarded::with_room(1 << 16),
             value: Guarded::with_room(8),
+            rectangle: Guarded::with_room(16),
             pen: pen::Room::default(),
             rescue: rescued::Room::default(),
         }
@@ -94,6 +98,8 @@ impl Room {
         let (xs, ys) = (xs.lend::<i32>(before.lists[0].len(), against), ys.lend::<i32>(before.lists[1].len(), against));
         xs.copy_from_slice(&before.lists[0]);
         ys.copy_from_slice(&before.lists[1]);
+        let rectangle: &mut Rectangle = self.rectangle.lend::<u32>(4, against).try_into().expect("4 numbers were lent");
+        *rectangle = before.rectangle;
         let none = Size { len: 0, width: 0, height: 0, pitch: 0 };
         let Size { width, height, pitch, .. } = job.size().unwrap_or(none);
         let mut short = |call: &mut dyn FnMut(&mut u32) -> u32| {
@@ -102,13 +108,13 @@ impl Room {
             (call(value), u64::from(*value))
         };
         let (number, value) = match job {
-            Job::Cells(_, ink, figure) => {
-                short(&mut |value| native::draw(Lent { bytes: sheet, width, height, pitch }, *ink, *figure, value))
-            }
-            Job::Metres(_, ink, survey, figure) => {
-                let draw = native::draw_metres;
-                short(&mut |value| draw(Lent { bytes: sheet, width, height, pitch }, *ink, *survey, *figure, value))
-            }
+            Job::Cells(_, ink, figure) => short(&mut |value| {
+                native::draw(Lent { bytes: sheet, width, height, pitch }, *ink, *figure, value, rectangle)
+            }),
+            Job::Metres(_, ink, survey, figure) => short(&mut |value| {
+                let lent = Lent { bytes: sheet, width, height, pitch };
+                native::draw_metres(lent, *ink, *survey, *figure, value, rectangle)
+            }),
             Job::List(_, ends) | Job::Begin(ends) => short(&mut |value| native::list(xs, ys, *ends, value)),
             Job::Fill(_, fill, ..) => {
                 short(&mut |value| native::fill(Lent { bytes: sheet, width, height, pitch }, *fill, work, value))
@@ -122,7 +128,7 @@ impl Room {
                     Again::of(*size, bytes).write(rules, buffer, value)?;
                 }
                 *value = before.value;
-                let number = native::file(Lent { bytes: sheet, width, height, pitch }, file, value);
+                let number = native::file(Lent { bytes: sheet, width, height, pitch }, file, value, rectangle);
                 if file != bytes {
                     return Err("the file was changed".into());
                 }
@@ -138,7 +144,7 @@ impl Room {
                 again.write(rules, buffer, value)?;
                 let written = &buffer[..*value as usize];
                 *value = before.value;
-                (native::file(Lent { bytes: sheet, width, height, pitch }, written, value), *value)
+                (native::file(Lent { bytes: sheet, width, height, pitch }, written, value, rectangle), *value)
             }
             Job::Rescue(rescue) => {
                 let by_rules = (expected.number, &expected.rescued);
@@ -146,11 +152,12 @@ impl Room {
                 let value = &mut self.value.lend::<u64>(1, against)[0];
                 *value = before.value;
                 let lent = Lent { bytes: sheet, width, height, pitch };
-                (copied.map_or(expected.number, |copied| native::file(lent, &copied, value)), *value)
+                (copied.map_or(expected.number, |copied| native::file(lent, &copied, value, rectangle)), *value)
             }
         };
         same("reply", &[number], &[expected.number])?;
         same("value", &[value], &[expected.value])?;
+        same("place of the box", rectangle, &expected.rectangle)?;
         same("byte", sheet, &expected.sheet)?;
         same("byte of the buffer", buffer, &expected.buffer)?;
         // a done fill may leave anything in its work slice, a refused one what was there
@@ -205,7 +212,8 @@ impl Outcome {
                 (sheet, rescued) = (random.bytes(rescue.size.len), Rescued::before(&mut random, rescue.lengths));
             }
         }
-        Outcome { number: 0, value, sheet, work, buffer, lists, calls, rescued }
+        let rectangle = [(); 4].map(|()| random.number() as u32);
+        Outcome { number: 0, value, rectangle, sheet, work, buffer, lists, calls, rescued }
     }
 
     fn by_rules(&mut self, rules: &Rules, job: &Job) {
@@ -214,7 +222,7 @@ impl Outcome {
         if let Some(size) = job.size() {
             sheet.shape = size.shape();
         }
-        let Reply { number, value } = match job {
+        let Reply { number, value, rectangle } = match job {
             Job::Cells(_, ink, figure) => rules.draw(&mut sheet, *ink, &widened(figure)),
             Job::Metres(_, ink, survey, figure) => rules.draw_metres(&mut sheet, *ink, *survey, *figure),
             Job::File(_, bytes) => {
@@ -224,11 +232,11 @@ impl Outcome {
                 rules.draw_file(&mut sheet, bytes)
             }
             Job::Fill(_, fill, ..) => rules.fill(&mut sheet, *fill, &mut self.work),
-            Job::Next(_) => Reply { number: self.calls[0].number, value: None },
+            Job::Next(_) => Reply { number: self.calls[0].number, value: None, rectangle: None },
             Job::Write(_, _, ink, figure) => {
                 let mut buffer = Buffer { bytes: &mut self.buffer, filled: self.value };
                 let number = rules.write(&mut buffer, *ink, &widened(figure));
-                Reply { number, value: Some(buffer.filled) }
+                Reply { number, value: Some(buffer.filled), rectangle: None }
             }
             Job::Again(again) => again.by_rules(rules, &mut sheet, &mut self.buffer),
             Job::Rescue(rescue) => rescue.by_rules(rules, &mut sheet, &mut self.rescued),
@@ -240,6 +248,7 @@ impl Outcome {
         };
         self.number = number;
         self.value = value.unwrap_or(self.value);
+        self.rectangle = rectangle.unwrap_or(self.rectangle);
     }
 }
 

@@ -92,7 +92,7 @@ fn by_rules(figure: Cells) -> Vec<u8> {
 
 fn library(bytes: &mut [u8], figure: Cells) -> u32 {
     let side = SIDE as u32;
-    native::draw(Lent { bytes, width: side, height: side, pitch: side }, INK, figure, &mut 0)
+    native::draw(Lent { bytes, width: side, height: side, pitch: side }, INK, figure, &mut 0, &mut [0; 4])
 }
 
 /// The rule's cells, the next from the top and the next from the bottom in turn: only the order is wrong.

@@ -84,7 +84,7 @@ impl Map {
     fn draw(&mut self, name: &str) -> Result<(), String> {
         let file = std::fs::read(name).map_err(|why| format!("{name}: {why}"))?;
         let mut offset = 0;
-        match native::file(self.lent(), &file, &mut offset) {
+        match native::file(self.lent(), &file, &mut offset, &mut [0; 4]) {
             0 => Ok(()),
             number => Err(format!("{name}: refused {number} at {offset}")),
         }

@@ -29,7 +29,8 @@ fn old_kit(bytes: &mut Bytes, [x0, y0]: Point, [x1, y1]: Point) {
 
 fn library(bytes: &mut Bytes, [x0, y0]: Point, [x1, y1]: Point) {
     let lent = Lent { bytes, width: WIDTH as u32, height: HEIGHT as u32, pitch: WIDTH as u32 };
-    assert_eq!(native::draw(lent, 1, Cells::Line([x0, y0, x1, y1]), &mut 0), 0, "the library refused a line");
+    let number = native::draw(lent, 1, Cells::Line([x0, y0, x1, y1]), &mut 0, &mut [0; 4]);
+    assert_eq!(number, 0, "the library refused a line");
 }
 
 /// The sheet with the lines between each point and the next.
