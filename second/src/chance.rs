@@ -200,7 +200,21 @@ fn centre(random: &mut Random, size: Size) -> ([i32; 2], bool) {
     }
 }
 
+/// A centre at the middle of the sheet, and semi-axes that end past its sides, so that arcs in its corners are left.
+fn about_the_middle(random: &mut Random, size: Size) -> ([i32; 2], [u32; 2]) {
+    let mut about = |side: u32| {
+        let side = i64::from(side.clamp(1, 4096));
+        ((side / 2) as i32, (side / 2 + random.within(1, 1 + side / 6)) as u32)
+    };
+    let ((x, a), (y, b)) = (about(size.width), about(size.height));
+    ([x, y], [a, b])
+}
+
 pub fn circle(random: &mut Random, size: Size) -> Cells {
+    if random.once_in(8) {
+        let (centre, [a, b]) = about_the_middle(random, size);
+        return Cells::Circle(centre, a.max(b));
+    }
     let (centre, through) = centre(random, size);
     if !through {
         return Cells::Circle(centre, radius(random, size.width));
@@ -212,6 +226,10 @@ pub fn circle(random: &mut Random, size: Size) -> Cells {
 pub fn ellipse(random: &mut Random, size: Size) -> Cells {
     if random.once_in(16) {
         return with_zeros(random, size);
+    }
+    if random.once_in(8) {
+        let (centre, [a, b]) = about_the_middle(random, size);
+        return Cells::Ellipse(centre, a, b);
     }
     if random.once_in(3) {
         return flat_ellipse(random, size);

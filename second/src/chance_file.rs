@@ -7,8 +7,14 @@ use crate::random::Random;
 pub fn file(random: &mut Random, size: Size) -> Vec<u8> {
     let mut bytes = Vec::new();
     let records = if random.once_in(2000) { random.within(100, 400) } else { random.within(0, 6) };
+    let (in_corners, rising) = (random.once_in(16), random.once_in(2));
     for _ in 0..records {
-        record(random, size, records > 6, &mut bytes);
+        if in_corners {
+            let figure = in_corner(random, size, rising);
+            write(random, figure, &mut bytes);
+        } else {
+            record(random, size, records > 6, &mut bytes);
+        }
     }
     if random.once_in(2) {
         for _ in 0..random.within(1, 3) {
@@ -48,6 +54,28 @@ pub fn sound(random: &mut Random) -> Cells {
         2 => Cells::Ellipse([x, y], a, b),
         3 => Cells::Curve([x, y, x1, y1, x2, y2], s),
         _ => Cells::Cubic(points, s),
+    }
+}
+
+/// A figure that is in the left or in the right one of two quarters of the sheet, which are opposite: upper left and lower
+/// right or, where they are rising, lower left and upper right.
+fn in_corner(random: &mut Random, size: Size, rising: bool) -> Cells {
+    let right = random.once_in(2);
+    let halves = [(size.width, right), (size.height, right != rising)];
+    let points @ [x0, y0, x1, y1, x2, y2, ..]: [i32; 8] = std::array::from_fn(|i| {
+        let (side, second) = halves[i % 2];
+        let side = i64::from(side.clamp(2, 4096));
+        let from_edge = random.within(0, side / 2 - 1);
+        (if second { side - 1 - from_edge } else { from_edge }) as i32
+    });
+    let centre = [(x0 + x1) / 2, (y0 + y1) / 2];
+    let axes @ [a, b] = [x0.abs_diff(x1) / 2, y0.abs_diff(y1) / 2];
+    match random.number() % 5 {
+        0 => Cells::Curve([x0, y0, x1, y1, x2, y2], random.within(0, 6) as u32),
+        1 => Cells::Cubic(points, random.within(0, 6) as u32),
+        2 => Cells::Circle(centre, a.min(b)),
+        3 if !axes.contains(&0) => Cells::Ellipse(centre, a, b),
+        _ => Cells::Line([x0, y0, x1, y1]),
     }
 }
 

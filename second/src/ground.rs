@@ -1,8 +1,20 @@
-//! What a sheet holds before a territory on it is filled: cells of open inks, and a boundary of some kind.
+//! What a sheet holds before a figure is drawn: any bytes, or its ink too. And before a territory is filled: cells of open
+//! inks, and a boundary of some kind.
 use crate::native::Fill;
 use crate::random::Random;
 use crate::rule::{no_sheet, place, Cell, Figure, Rules, Shape, Sheet};
 use std::fmt;
+
+/// A sheet of any bytes; seldom with this ink all over, or in half of them, as where the same is drawn once more.
+pub fn inked(random: &mut Random, len: usize, ink: u8) -> Vec<u8> {
+    let mut sheet = random.bytes(len);
+    match random.number() % 16 {
+        0 => sheet.fill(ink),
+        1 => sheet.iter_mut().filter(|byte| **byte % 2 == 0).for_each(|byte| *byte = ink),
+        _ => {}
+    }
+    sheet
+}
 
 /// A kind of boundary.
 #[derive(Clone, Copy, Debug)]

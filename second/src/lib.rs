@@ -17,6 +17,8 @@ pub mod metres;
 pub mod native;
 pub mod pen;
 pub mod random;
+#[cfg(test)]
+mod rectangles;
 pub mod repaint;
 pub mod rescue;
 pub mod rescued;

@@ -1,13 +1,14 @@
 //! One case, drawn by the library between guard pages and by the second program, and compared.
 use crate::again::Again;
 use crate::case::{places, Case, Job, Size, MOST_BUFFER, MOST_BYTES, MOST_PLACES, MOST_WORK};
+use crate::ground::inked;
 use crate::guard::{Against, Guarded};
 use crate::native::{self, Cells, Lent};
 use crate::pen::{self, Call};
 use crate::random::Random;
 use crate::repaint::Rectangle;
 use crate::rescue::Rescued;
-use crate::rescued;
+use crate::rescued::{self, Rescue};
 use crate::rule::{Cell, Figure, Reply, Rules, Shape, Sheet};
 use crate::writer::Buffer;
 use std::fmt::Display;
@@ -27,7 +28,7 @@ pub struct Room {
 
 /// What a case leaves behind: reply, value or filled count, the lent box, the sheet, the work slice, the buffer that is
 /// written to, the two lists, each call of a pen, and what a rescue was lent.
-struct Outcome {
+pub(crate) struct Outcome {
     number: u32,
     value: u64,
     rectangle: Rectangle,
@@ -181,7 +182,7 @@ pub fn same<T: PartialEq + Display>(name: &str, found: &[T], expected: &[T]) -> 
 
 impl Outcome {
     /// What is lent, before anything is drawn.
-    fn before(case: &Case) -> Outcome {
+    pub(crate) fn before(case: &Case) -> Outcome {
         let mut random = Random(case.held);
         // an export that tells its value in 32 bits is lent 32 bits
         let most = if matches!(case.job, Job::File(..) | Job::Again(_) | Job::Rescue(_)) {
@@ -193,8 +194,10 @@ impl Outcome {
         let (mut sheet, mut work, mut buffer) = (Vec::new(), Vec::new(), Vec::new());
         let (mut lists, mut calls, mut rescued) = ([Vec::new(), Vec::new()], Vec::new(), Rescued::default());
         match &case.job {
-            Job::Cells(size, ..) | Job::Metres(size, ..) => sheet = random.bytes(size.len),
-            Job::File(size, file) => (sheet, buffer) = (random.bytes(size.len), random.bytes(file.len())),
+            Job::Cells(size, ink, _) | Job::Metres(size, ink, ..) => sheet = inked(&mut random, size.len, *ink),
+            Job::File(size, file) => {
+                (sheet, buffer) = (inked(&mut random, size.len, first_ink(file)), random.bytes(file.len()));
+            }
             Job::Fill(size, fill, places, ground) => {
                 sheet.resize(size.len, 0);
                 ground.lay(&mut random, &mut Sheet { shape: size.shape(), bytes: &mut sheet }, *fill);
@@ -207,16 +210,19 @@ impl Outcome {
             }
             Job::Next(pen) => calls.push(Call::before(&mut random, Some(*pen))),
             Job::Write(len, filled, ..) => (value, buffer) = (*filled, random.bytes(*len)),
-            Job::Again(again) => (sheet, buffer) = (random.bytes(again.size.len), random.bytes(again.room)),
-            Job::Rescue(rescue) => {
-                (sheet, rescued) = (random.bytes(rescue.size.len), Rescued::before(&mut random, rescue.lengths));
+            Job::Again(Again { size, room, file, .. }) => {
+                (sheet, buffer) = (inked(&mut random, size.len, first_ink(file)), random.bytes(*room));
+            }
+            Job::Rescue(Rescue { size, lengths, file }) => {
+                sheet = inked(&mut random, size.len, first_ink(file));
+                rescued = Rescued::before(&mut random, *lengths);
             }
         }
         let rectangle = [(); 4].map(|()| random.number() as u32);
         Outcome { number: 0, value, rectangle, sheet, work, buffer, lists, calls, rescued }
     }
 
-    fn by_rules(&mut self, rules: &Rules, job: &Job) {
+    pub(crate) fn by_rules(&mut self, rules: &Rules, job: &Job) {
         self.calls = self.calls.first().map_or(Vec::new(), |lent| lent.by_rules(rules, job.begins()));
         let mut sheet = Sheet { shape: Shape { width: 0, height: 0, pitch: 0 }, bytes: &mut self.sheet };
         if let Some(size) = job.size() {
@@ -250,6 +256,11 @@ impl Outcome {
         self.value = value.unwrap_or(self.value);
         self.rectangle = rectangle.unwrap_or(self.rectangle);
     }
+}
+
+/// The ink of a file's first record, where it has one.
+fn first_ink(file: &[u8]) -> u8 {
+    file.get(4).copied().unwrap_or_default()
 }
 
 /// Whether a file is accepted, whatever it is drawn on; such a one is also written again.
