@@ -27,6 +27,7 @@ pub mod run;
 pub mod teeth;
 pub mod teeth_crossing;
 mod teeth_fill;
+mod teeth_repaint;
 mod teeth_rescue;
 mod teeth_write;
 pub mod territory;

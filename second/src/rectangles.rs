@@ -3,6 +3,7 @@ use crate::case::{Case, Job};
 use crate::repaint::{over, Painted, Rectangle, Repainter};
 use crate::rule::{place, Cell, Figure, Rules, Shape, Sheet};
 use crate::run::Outcome;
+use crate::teeth_repaint::reach;
 use crate::territory::reached;
 use std::cell::RefCell;
 use std::collections::BTreeMap;
@@ -22,22 +23,9 @@ fn noted(_: &Rules, shape: Shape, painted: &[Painted]) -> Option<Rectangle> {
 /// What may be true of a drawing, and whether it is of this one.
 type Sorts = Vec<(&'static str, bool)>;
 
-/// The least and the greatest column of a figure, also off the sheet, and the least and the greatest row.
-fn reach(figure: &Figure) -> [[i64; 2]; 2] {
-    let ring = |(x, y): Cell, a: i64, b: i64| vec![(x - a, y - b), (x + a, y + b)];
-    let corners = match *figure {
-        Figure::Circle(centre, r) => ring(centre, r, r),
-        Figure::Ellipse(centre, a, b) => ring(centre, a, b),
-        _ => Rules::document().points(figure),
-    };
-    let ends =
-        |numbers: Vec<i64>| numbers.iter().fold([i64::MAX, i64::MIN], |[least, most], &n| [least.min(n), most.max(n)]);
-    [ends(corners.iter().map(|cell| cell.0).collect()), ends(corners.iter().map(|cell| cell.1).collect())]
-}
-
 /// Of a figure in a row or column of the sheet, at which side of it it is.
 fn beside(shape: Shape, one: &Painted) -> Sorts {
-    let [[left, right], [top, bottom]] = reach(&one.figure);
+    let [[left, right], [top, bottom]] = reach(&Rules::document(), &one.figure);
     let (columns, rows) = (left < shape.width && right >= 0, top < shape.height && bottom >= 0);
     vec![
         ("off the sheet at its left", rows && right < 0),
