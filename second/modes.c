@@ -26,8 +26,8 @@ static int passed, failed;
 static int cell(double position, double size) {
     uint8_t row[WIDTH] = {0};
     uint32_t cells = 0, box[4];
-    int32_t reply = (int32_t)pw_line_metres(row, sizeof row, WIDTH, 1, WIDTH, 1, 0.0, 0.0, size, position, 0.0, position, 0.0,
-                                            &cells, box);
+    int32_t reply = (int32_t)pw_line_metres(row, sizeof row, WIDTH, 1, WIDTH, 1, 0.0, 0.0, size,
+                                            position, 0.0, position, 0.0, &cells, box);
     for (int x = 0; x < WIDTH && reply == PW_DONE; x++)
         if (row[x])
             return x;

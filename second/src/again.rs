@@ -45,8 +45,8 @@ impl Again {
         same("count", &[*filled], &[self.file.len() as u64])
     }
 
-    /// What is left when all is written, and then drawn: the buffer begins with the file, and sheet and rectangle are as the
-    /// library draws the file that was read. How the second program draws a file is compared by itself.
+    /// What is left when all is written, and then drawn: the buffer begins with the file, and sheet and rectangle are those
+    /// of the file that was read, by the library. How the second program draws a file is compared by itself.
     pub fn by_rules(&self, rules: &Rules, sheet: &mut Sheet, buffer: &mut [u8]) -> Reply {
         buffer.iter_mut().zip(&self.file).for_each(|(byte, new)| *byte = *new);
         let Size { width, height, pitch, .. } = self.size;

@@ -57,8 +57,8 @@ pub fn sound(random: &mut Random) -> Cells {
     }
 }
 
-/// A figure that is in the left or in the right one of two quarters of the sheet, which are opposite: upper left and lower
-/// right or, where they are rising, lower left and upper right.
+/// A figure in one of two opposite quarters of the sheet: upper left and lower right or, where they are rising, lower
+/// left and upper right.
 fn in_corner(random: &mut Random, size: Size, rising: bool) -> Cells {
     let right = random.once_in(2);
     let halves = [(size.width, right), (size.height, right != rising)];

@@ -48,6 +48,11 @@ pub fn record(rules: &Rules, rest: &[u8]) -> Result<(u8, Figure, usize), Bad> {
     }
 }
 
+/// The ink of the first record; 0 where there is none.
+pub fn first_ink(file: &[u8]) -> u8 {
+    file.get(INK).copied().unwrap_or_default()
+}
+
 impl Rules {
     /// Tells each record's ink and figure in order; or, where one is refused, the number and the offset of the field that is named.
     pub fn read(&self, file: &[u8], mut tell: impl FnMut(u8, Figure)) -> Result<(), Bad> {

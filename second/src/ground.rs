@@ -1,5 +1,5 @@
-//! What a sheet holds before a figure is drawn: any bytes, or its ink too. And before a territory is filled: cells of open
-//! inks, and a boundary of some kind.
+//! What a sheet holds before figures are drawn on it: any bytes, or their ink; and before a territory on it is filled:
+//! cells of open inks, and a boundary of some kind.
 use crate::native::Fill;
 use crate::random::Random;
 use crate::rule::{no_sheet, place, Cell, Figure, Rules, Shape, Sheet};

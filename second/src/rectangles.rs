@@ -1,14 +1,13 @@
-//! That random cases bring rectangles of every sort.
+//! That every drawing's rectangle is compared, and that random cases bring rectangles of every sort.
 use crate::case::{Case, Job};
-use crate::repaint::{over, Painted, Rectangle, Repainter};
+use crate::repaint::{over, Painted, Rectangle, Repainter, NONE};
 use crate::rule::{place, Cell, Figure, Rules, Shape, Sheet};
-use crate::run::Outcome;
+use crate::run::{Outcome, Room};
 use crate::teeth_repaint::reach;
 use crate::territory::reached;
 use std::cell::RefCell;
-use std::collections::BTreeMap;
-
-const NONE: Rectangle = [0; 4];
+use std::collections::{BTreeMap, BTreeSet};
+use std::slice::from_ref;
 
 thread_local! {
     /// What was drawn since the last look.
@@ -23,7 +22,7 @@ fn noted(_: &Rules, shape: Shape, painted: &[Painted]) -> Option<Rectangle> {
 /// What may be true of a drawing, and whether it is of this one.
 type Sorts = Vec<(&'static str, bool)>;
 
-/// Of a figure in a row or column of the sheet, at which side of it it is.
+/// At which side of the sheet a figure is that has rows or columns in common with it.
 fn beside(shape: Shape, one: &Painted) -> Sorts {
     let [[left, right], [top, bottom]] = reach(&Rules::document(), &one.figure);
     let (columns, rows) = (left < shape.width && right >= 0, top < shape.height && bottom >= 0);
@@ -51,6 +50,7 @@ fn parts(shape: Shape, one: &Painted) -> usize {
     parts
 }
 
+/// Sizes of a rectangle on a sheet of more than one row and column, and whether what was set had been so.
 fn sizes(shape: Shape, painted: &[Painted]) -> Sorts {
     let [_, _, width, height] = over(shape, painted);
     let large = shape.width > 1 && shape.height > 1;
@@ -67,7 +67,7 @@ fn of_figure(shape: Shape, one: &Painted) -> Sorts {
     let ring = matches!(one.figure, Figure::Circle(..) | Figure::Ellipse(..));
     let parts = if ring { parts(shape, one) } else { 0 };
     let arcs = vec![("two arcs", parts == 2), ("four arcs", parts == 4)];
-    [beside(shape, one), arcs, sizes(shape, std::slice::from_ref(one))].concat()
+    [beside(shape, one), arcs, sizes(shape, from_ref(one))].concat()
 }
 
 /// The quarter of the sheet that a rectangle is in, told by whether it is the right one and the lower one.
@@ -80,19 +80,39 @@ fn quarter(shape: Shape, [x, y, width, height]: Rectangle) -> Option<[bool; 2]> 
     Some([half(x, width, shape.width)?, half(y, height, shape.height)?])
 }
 
+/// In opposite corners a file is each of whose records is in one of two opposite quarters, or off the sheet.
 fn of_file(shape: Shape, painted: &[Painted]) -> Sorts {
-    let each: Vec<Rectangle> = painted.iter().map(|one| over(shape, std::slice::from_ref(one))).collect();
+    let each: Vec<Rectangle> = painted.iter().map(|one| over(shape, from_ref(one))).collect();
     let on_sheet: Vec<Rectangle> = each.iter().copied().filter(|&rectangle| rectangle != NONE).collect();
-    let quarters: Option<Vec<[bool; 2]>> = on_sheet.iter().map(|&rectangle| quarter(shape, rectangle)).collect();
-    let opposite = quarters.is_some_and(|quarters| {
-        let across = quarters.first().map(|quarter| quarter.map(|half| !half));
-        quarters.iter().all(|quarter| *quarter == quarters[0] || Some(*quarter) == across)
-            && quarters.iter().any(|quarter| Some(*quarter) == across)
-    });
+    let quarters: Option<BTreeSet<[bool; 2]>> = on_sheet.iter().map(|&rectangle| quarter(shape, rectangle)).collect();
+    let quarters = Vec::from_iter(quarters.unwrap_or_default());
+    let opposite = matches!(quarters[..], [one, other] if one == other.map(|half| !half));
     let all_off = !each.is_empty() && on_sheet.is_empty();
     let some_off = on_sheet.len() < each.len() && !on_sheet.is_empty();
     let files = vec![("opposite corners", opposite), ("all off the sheet", all_off), ("some off the sheet", some_off)];
     [files, sizes(shape, painted)].concat()
+}
+
+/// By rules that always tell a wrong rectangle every drawing differs, done or refused, and nothing else does.
+#[test]
+fn every_drawing_is_compared_in_its_rectangle() {
+    const WRONG: Option<Rectangle> = Some([u32::MAX; 4]);
+    let right = Rules::document();
+    let repainter = Repainter { told: |_, _, _| WRONG, refused: WRONG, refused_file: WRONG };
+    let mut room = Room::default();
+    for seed in 0..1000 {
+        for make in [Case::figure, Case::file, Case::damaged, Case::rescue, Case::fill, Case::write] {
+            let case = make(seed);
+            let (number, _) = room.compare(&right, &case).unwrap();
+            let draws = match case.job {
+                Job::Cells(..) | Job::Metres(..) | Job::File(..) => true,
+                // a refused rescue leaves nothing to draw
+                Job::Rescue(_) => number == 0,
+                _ => false,
+            };
+            assert_eq!(room.compare(&Rules { repainter, ..right }, &case).is_err(), draws, "{case}");
+        }
+    }
 }
 
 #[test]

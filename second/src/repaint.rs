@@ -3,6 +3,7 @@ use crate::rule::{Figure, Reply, Rules, Shape};
 
 /// x, y, width and height; 0 each where no cell was set.
 pub type Rectangle = [u32; 4];
+pub const NONE: Rectangle = [0; 4];
 
 /// A figure that was drawn: the byte of each cell that it set, with the ink that was there.
 #[derive(Clone, Debug)]

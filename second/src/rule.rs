@@ -23,8 +23,8 @@ pub enum Figure {
     Cubic([Cell; 4], i64),
 }
 
-/// A number of the table, and the value and the rectangle that go with it; what is lent for one that is not there stays as it
-/// was.
+/// A number of the table, and the value and the rectangle that go with it; where there is none, what is lent for it stays
+/// as it was.
 #[derive(Clone, Copy, Debug, PartialEq)]
 pub struct Reply {
     pub number: u32,

@@ -1,6 +1,7 @@
 //! One case, drawn by the library between guard pages and by the second program, and compared.
 use crate::again::Again;
 use crate::case::{places, Case, Job, Size, MOST_BUFFER, MOST_BYTES, MOST_PLACES, MOST_WORK};
+use crate::file::first_ink;
 use crate::ground::inked;
 use crate::guard::{Against, Guarded};
 use crate::native::{self, Cells, Lent};
@@ -256,11 +257,6 @@ impl Outcome {
         self.value = value.unwrap_or(self.value);
         self.rectangle = rectangle.unwrap_or(self.rectangle);
     }
-}
-
-/// The ink of a file's first record, where it has one.
-fn first_ink(file: &[u8]) -> u8 {
-    file.get(4).copied().unwrap_or_default()
 }
 
 /// Whether a file is accepted, whatever it is drawn on; such a one is also written again.

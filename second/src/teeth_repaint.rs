@@ -1,9 +1,7 @@
 //! Drawings that tell a wrong rectangle on purpose.
-use crate::repaint::{over, rectangle, Painted, Rectangle, Repainter};
+use crate::repaint::{over, rectangle, Painted, Rectangle, Repainter, NONE};
 use crate::rule::{Cell, Figure, Rules, Shape};
 use std::slice::from_ref;
-
-const NONE: Rectangle = [0; 4];
 
 /// The first and the last column, and the first and the last row.
 type Reach = [[i64; 2]; 2];
