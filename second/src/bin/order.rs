@@ -1,11 +1,13 @@
 //! Watches which rows of a sheet a circle or an ellipse touches: those that have a cell of it, once each, from the top
-//! down. Each row is a page, closed until it is touched and again once another is.
+//! down. Each row is a page, closed until it is touched and again once another is. What is drawn and the rectangle that is
+//! told are compared too.
 //!
 //!     order               watches the library
 //!     order --mirrored    the same cells, from the top and the bottom in turn, in the library's place: this must fail
 use second::guard::{Against, Guarded};
 use second::native::Cells::{self, Circle, Ellipse};
 use second::native::{self, Lent};
+use second::repaint::Rectangle;
 use second::rule::{Rules, Shape, Sheet};
 use second::run::{same, widened};
 use second::watched::{page_size, watch};
@@ -15,8 +17,8 @@ use std::process::ExitCode;
 const SIDE: usize = 4096;
 const INK: u8 = 1;
 
-/// Draws a figure; the number that it replies.
-type Kit = fn(&mut [u8], Cells) -> u32;
+/// Draws a figure; the number that it replies, and the rectangle that it tells.
+type Kit = fn(&mut [u8], Cells) -> (u32, Rectangle);
 
 const CASES: [(&str, Cells); 61] = [
     ("whole", Circle([100, 100], 1)),
@@ -82,36 +84,38 @@ const CASES: [(&str, Cells); 61] = [
     ("nothing, above the sheet", Ellipse([2000, -2], 300, 1)),
 ];
 
-fn by_rules(figure: Cells) -> Vec<u8> {
+/// The sheet with the figure, and its rectangle.
+fn by_rules(figure: Cells) -> (Vec<u8>, Rectangle) {
     let mut bytes = vec![0; SIDE * SIDE];
     let side = SIDE as i64;
     let shape = Shape { width: side, height: side, pitch: side };
-    Rules::document().draw(&mut Sheet { shape, bytes: &mut bytes }, INK, &widened(&figure));
-    bytes
+    let reply = Rules::document().draw(&mut Sheet { shape, bytes: &mut bytes }, INK, &widened(&figure));
+    (bytes, reply.rectangle.expect("no case is refused"))
 }
 
-fn library(bytes: &mut [u8], figure: Cells) -> u32 {
-    let side = SIDE as u32;
-    native::draw(Lent { bytes, width: side, height: side, pitch: side }, INK, figure, &mut 0, &mut [0; 4])
+fn library(bytes: &mut [u8], figure: Cells) -> (u32, Rectangle) {
+    let (side, mut rectangle) = (SIDE as u32, [u32::MAX; 4]);
+    let lent = Lent { bytes, width: side, height: side, pitch: side };
+    (native::draw(lent, INK, figure, &mut 0, &mut rectangle), rectangle)
 }
 
 /// The rule's cells, the next from the top and the next from the bottom in turn: only the order is wrong.
-fn mirrored(bytes: &mut [u8], figure: Cells) -> u32 {
-    let drawn = by_rules(figure);
+fn mirrored(bytes: &mut [u8], figure: Cells) -> (u32, Rectangle) {
+    let (drawn, rectangle) = by_rules(figure);
     let places = || (0..drawn.len()).filter(|&place| drawn[place] == INK);
     for (down, up) in places().zip(places().rev()) {
         bytes[down] = INK;
         bytes[up] = INK;
     }
-    0
+    (0, rectangle)
 }
 
 /// Draws a figure on the watched sheet; what is wrong, if anything is.
 fn watched(kit: Kit, sheet: &mut [u8], figure: Cells) -> Result<(), String> {
-    let (page, drawn) = (page_size(), by_rules(figure));
+    let (page, (drawn, rectangle)) = (page_size(), by_rules(figure));
     let inked: Vec<usize> = (0..drawn.len() / page).filter(|i| drawn[i * page..][..page].contains(&INK)).collect();
     sheet.fill(0);
-    let (reply, touched) = watch(sheet, |sheet| kit(sheet, figure));
+    let ((reply, told), touched) = watch(sheet, |sheet| kit(sheet, figure));
     same("reply", &[reply], &[0])?;
     let row = if page == SIDE { "row" } else { "page" };
     if let Some(pair) = touched.windows(2).find(|pair| pair[0] >= pair[1]) {
@@ -123,6 +127,7 @@ fn watched(kit: Kit, sheet: &mut [u8], figure: Cells) -> Result<(), String> {
     if let Some(missed) = inked.iter().find(|inked| !touched.contains(inked)) {
         return Err(format!("{row} {missed} has a cell and is not touched"));
     }
+    same("place of the box", &told, &rectangle)?;
     same("byte", sheet, &drawn)
 }
 
