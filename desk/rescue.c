@@ -121,12 +121,13 @@ static void *lent(size_t count, size_t size) {
 /* Copies what reads well, and counts its records by drawing them on a sheet of one cell. */
 static void rescue(size_t n) {
     uint8_t cell = 0;
+    uint32_t box[4] = {0};
     copy = lent(n, sizeof *copy);
     offsets = lent(n, sizeof *offsets);
     numbers = lent(n, sizeof *numbers);
     uint32_t reply = pw_rescue(file, n, copy, n, offsets, n, numbers, n, &copied, &listed);
     if (reply == PW_DONE)
-        reply = pw_file(&cell, 1, 1, 1, 1, copy, copied, &records);
+        reply = pw_file(&cell, 1, 1, 1, 1, copy, copied, &records, box);
     if (reply != PW_DONE)
         stop("the library refuses the rescue with %" PRIu32 "; nothing is written", reply);
 }

@@ -14,6 +14,7 @@ extern "C" {
         x1: i32,
         y1: i32,
         cells: *mut u32,
+        rectangle: *mut [u32; 4],
     ) -> u32;
     fn pw_file(
         sheet: *mut u8,
@@ -24,6 +25,7 @@ extern "C" {
         file: *const u8,
         n: usize,
         value: *mut u64,
+        rectangle: *mut [u32; 4],
     ) -> u32;
     fn pw_pen_begin(pen: *mut Pen, x0: i32, y0: i32, x1: i32, y1: i32) -> u32;
     fn pw_pen_next(pen: *mut Pen, x: *mut i32, y: *mut i32) -> u32;
@@ -39,8 +41,8 @@ const HEIGHT: u32 = 8;
 
 /// Draws a line: its number of cells on the sheet, or the refusal's number.
 fn line(sheet: &mut [u8], from: (i32, i32), to: (i32, i32)) -> Result<u32, u32> {
-    let mut cells = 0;
-    // SAFETY: the pointer and the length are one slice's, and `cells` is a place of its own.
+    let (mut cells, mut rectangle) = (0, [0; 4]);
+    // SAFETY: the pointer and the length are one slice's, and `cells` and `rectangle` are places of their own.
     let reply = unsafe {
         pw_line(
             sheet.as_mut_ptr(),
@@ -54,6 +56,7 @@ fn line(sheet: &mut [u8], from: (i32, i32), to: (i32, i32)) -> Result<u32, u32> 
             to.0,
             to.1,
             &mut cells,
+            &mut rectangle,
         )
     };
     if reply == 0 {
@@ -65,7 +68,7 @@ fn line(sheet: &mut [u8], from: (i32, i32), to: (i32, i32)) -> Result<u32, u32> 
 
 /// Draws a record file: its number of records, or the refusal's number and the offset of the field that it names.
 fn file(sheet: &mut [u8], file: &[u8]) -> Result<u64, (u32, u64)> {
-    let mut value = 0;
+    let (mut value, mut rectangle) = (0, [0; 4]);
     // SAFETY: as in `line`; the file is only read.
     let reply = unsafe {
         pw_file(
@@ -77,6 +80,7 @@ fn file(sheet: &mut [u8], file: &[u8]) -> Result<u64, (u32, u64)> {
             file.as_ptr(),
             file.len(),
             &mut value,
+            &mut rectangle,
         )
     };
     if reply == 0 {

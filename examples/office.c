@@ -31,8 +31,9 @@ static uint32_t write_district(void) {
 /* Draws the file on a clear sheet, and answers how many records it has. */
 static uint64_t draw_file(uint8_t *sheet) {
     uint64_t records = 0;
+    uint32_t box[4] = {0};
     memset(sheet, '.', WIDTH * HEIGHT);
-    if (pw_file(sheet, WIDTH * HEIGHT, WIDTH, HEIGHT, WIDTH, file, filled, &records) != PW_DONE)
+    if (pw_file(sheet, WIDTH * HEIGHT, WIDTH, HEIGHT, WIDTH, file, filled, &records, box) != PW_DONE)
         printf("the file is refused\n");
     return records;
 }

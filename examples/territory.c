@@ -14,8 +14,9 @@ static uint32_t work[CELLS];
 
 /* Draws the boundary: a line across the whole sheet, and a ring about a substation that neither controller has. */
 static uint32_t draw_boundary(void) {
-    uint32_t cells = 0, reply = pw_line(sheet, sizeof sheet, WIDTH, HEIGHT, WIDTH, BOUNDARY, 0, 13, 59, 2, &cells);
-    return reply != PW_DONE ? reply : pw_ellipse(sheet, sizeof sheet, WIDTH, HEIGHT, WIDTH, BOUNDARY, 31, 7, 9, 4);
+    uint32_t cells = 0, box[4] = {0};
+    uint32_t reply = pw_line(sheet, sizeof sheet, WIDTH, HEIGHT, WIDTH, BOUNDARY, 0, 13, 59, 2, &cells, box);
+    return reply != PW_DONE ? reply : pw_ellipse(sheet, sizeof sheet, WIDTH, HEIGHT, WIDTH, BOUNDARY, 31, 7, 9, 4, box);
 }
 
 /* Fills what can be reached from (x, y) without entering a cell of the boundary. Steps go by sides, so that nothing leaks where

@@ -12,8 +12,8 @@ enum { LEFT = 10, TOP = 2, WIDE = 24, HIGH = 9 };
 
 /* Draws the boundary and the storm ring of a map whose sheet is lent. */
 static uint32_t draw_map(uint8_t *sheet, size_t len, uint32_t width, uint32_t height, uint32_t pitch) {
-    uint32_t cells = 0, reply = pw_line(sheet, len, width, height, pitch, '#', 0, 7, 23, 0, &cells);
-    return reply != PW_DONE ? reply : pw_ellipse(sheet, len, width, height, pitch, 'o', 4, 4, 6, 6);
+    uint32_t cells = 0, box[4] = {0}, reply = pw_line(sheet, len, width, height, pitch, '#', 0, 7, 23, 0, &cells, box);
+    return reply != PW_DONE ? reply : pw_ellipse(sheet, len, width, height, pitch, 'o', 4, 4, 6, 6, box);
 }
 
 int main(void) {

@@ -7,6 +7,7 @@
 
 enum { WIDTH = 16, HEIGHT = 8 };
 static uint8_t sheet[WIDTH * HEIGHT];
+static uint32_t box[4];
 static int passed, failed;
 
 static void same(const char *example, long long found, long long expected) {
@@ -34,7 +35,9 @@ static int at(int x, int y) { return sheet[y * WIDTH + x]; }
 /* the cell of a position, as the ring of radius one cell about it shows, whose rightmost cell is one further: so -1 is seen too */
 static int column(double east, double size, double x) {
     clear();
-    if (pw_ellipse_metres(sheet, sizeof sheet, WIDTH, HEIGHT, WIDTH, 1, east, 0.0, size, x, 2.0 * size, size, size) != PW_DONE)
+    uint32_t reply = pw_ellipse_metres(sheet, sizeof sheet, WIDTH, HEIGHT, WIDTH, 1, east, 0.0, size, x, 2.0 * size, size,
+                                       size, box);
+    if (reply != PW_DONE)
         return -100;
     for (int c = WIDTH - 1; c >= 0; c--)
         if (at(c, 2))
@@ -47,13 +50,14 @@ static uint64_t value;
 static uint32_t file(const char *bytes, size_t n) {
     clear();
     value = 99;
-    return pw_file(sheet, sizeof sheet, WIDTH, HEIGHT, WIDTH, (const uint8_t *)bytes, n, &value);
+    return pw_file(sheet, sizeof sheet, WIDTH, HEIGHT, WIDTH, (const uint8_t *)bytes, n, &value, box);
 }
 
 /* a cubic on a sheet of zeros, by its control points; the same with these reversed */
 static uint32_t cubic(const int32_t *p, uint32_t s) {
     clear();
-    return pw_cubic(sheet, sizeof sheet, WIDTH, HEIGHT, WIDTH, 1, p[0], p[1], p[2], p[3], p[4], p[5], p[6], p[7], s);
+    return pw_cubic(sheet, sizeof sheet, WIDTH, HEIGHT, WIDTH, 1, p[0], p[1], p[2], p[3], p[4], p[5], p[6], p[7], s,
+                    box);
 }
 
 static uint32_t backwards(const int32_t *p, uint32_t s) {
@@ -230,10 +234,10 @@ static void writers(void) {
     uint32_t cells;
     memcpy(drawn, sheet, sizeof sheet);
     clear();
-    pw_line(sheet, sizeof sheet, WIDTH, HEIGHT, WIDTH, 1, 0, 0, 2, 1, &cells);
-    pw_ellipse(sheet, sizeof sheet, WIDTH, HEIGHT, WIDTH, 1, -1, 2, 3, 3);
-    pw_curve(sheet, sizeof sheet, WIDTH, HEIGHT, WIDTH, 1, 0, 0, 2, 4, 4, 0, 1);
-    pw_cubic(sheet, sizeof sheet, WIDTH, HEIGHT, WIDTH, 1, 9, 0, 0, 4, 259, 4, 4, 0, 6);
+    pw_line(sheet, sizeof sheet, WIDTH, HEIGHT, WIDTH, 1, 0, 0, 2, 1, &cells, box);
+    pw_ellipse(sheet, sizeof sheet, WIDTH, HEIGHT, WIDTH, 1, -1, 2, 3, 3, box);
+    pw_curve(sheet, sizeof sheet, WIDTH, HEIGHT, WIDTH, 1, 0, 0, 2, 4, 4, 0, 1, box);
+    pw_cubic(sheet, sizeof sheet, WIDTH, HEIGHT, WIDTH, 1, 9, 0, 0, 4, 259, 4, 4, 0, 6, box);
     same("the file draws the figures that were written", memcmp(drawn, sheet, sizeof sheet), 0);
     same("every ink is written", pw_write_circle(buffer, sizeof buffer, &filled, 255, 1, 2, 3), PW_DONE);
     same("as it is", buffer[filled - 7], 255);
@@ -365,7 +369,7 @@ int main(void) {
     /* the points are (0,0), the middle and (0,4): were the middle -1, its cell would lie off the sheet */
     clear();
     same("a curve with x of 0, -1, 0 and s = 1 is drawn",
-         pw_curve(sheet, sizeof sheet, WIDTH, HEIGHT, WIDTH, 1, 0, 0, -1, 2, 0, 4, 1), PW_DONE);
+         pw_curve(sheet, sizeof sheet, WIDTH, HEIGHT, WIDTH, 1, 0, 0, -1, 2, 0, 4, 1, box), PW_DONE);
     same("x of 0, -1, 0: -0.5 becomes 0", set() == 5 && at(0, 0) && at(0, 1) && at(0, 2) && at(0, 3) && at(0, 4), 1);
 
     same("origin 1000.0, size 25.0: 1062.5 is cell 2", column(1000.0, 25.0, 1062.5), 2);
@@ -375,29 +379,34 @@ int main(void) {
 
     /* document 02, K10 */
     clear();
-    same("both axes 0 are drawn", pw_ellipse(sheet, sizeof sheet, WIDTH, HEIGHT, WIDTH, 1, 1, 2, 0, 0), PW_DONE);
+    same("both axes 0 are drawn", pw_ellipse(sheet, sizeof sheet, WIDTH, HEIGHT, WIDTH, 1, 1, 2, 0, 0, box), PW_DONE);
     same("both axes 0 are one cell", set() == 1 && at(1, 2), 1);
     same("a single axis of 0 is refused with 3",
-         pw_ellipse(sheet, sizeof sheet, WIDTH, HEIGHT, WIDTH, 1, 1, 2, 0, 3), PW_RADIUS);
-    same("and so is the other", pw_ellipse(sheet, sizeof sheet, WIDTH, HEIGHT, WIDTH, 1, 1, 2, 3, 0), PW_RADIUS);
+         pw_ellipse(sheet, sizeof sheet, WIDTH, HEIGHT, WIDTH, 1, 1, 2, 0, 3, box), PW_RADIUS);
+    same("and so is the other", pw_ellipse(sheet, sizeof sheet, WIDTH, HEIGHT, WIDTH, 1, 1, 2, 3, 0, box), PW_RADIUS);
     same("axes of 16,384 are refused with 3",
-         pw_ellipse(sheet, sizeof sheet, WIDTH, HEIGHT, WIDTH, 1, 1, 2, 16384, 16384), PW_RADIUS);
+         pw_ellipse(sheet, sizeof sheet, WIDTH, HEIGHT, WIDTH, 1, 1, 2, 16384, 16384, box), PW_RADIUS);
     clear();
     same("lengths below a cell are drawn",
-         pw_ellipse_metres(sheet, sizeof sheet, WIDTH, HEIGHT, WIDTH, 1, 0.0, 0.0, 25.0, 30.0, 60.0, 24.0, 0.0), PW_DONE);
+         pw_ellipse_metres(sheet, sizeof sheet, WIDTH, HEIGHT, WIDTH, 1, 0.0, 0.0, 25.0, 30.0, 60.0, 24.0, 0.0, box),
+         PW_DONE);
     same("lengths below a cell are one cell", set() == 1 && at(1, 2), 1);
     same("one length below a cell is refused with 3",
-         pw_ellipse_metres(sheet, sizeof sheet, WIDTH, HEIGHT, WIDTH, 1, 0.0, 0.0, 25.0, 30.0, 60.0, 24.0, 25.0), PW_RADIUS);
+         pw_ellipse_metres(sheet, sizeof sheet, WIDTH, HEIGHT, WIDTH, 1, 0.0, 0.0, 25.0, 30.0, 60.0, 24.0, 25.0, box),
+         PW_RADIUS);
 
     cells = 0;
-    same("coordinate 16,383 is drawn", pw_line(sheet, sizeof sheet, WIDTH, HEIGHT, WIDTH, 1, 0, 0, 16383, 0, &cells), PW_DONE);
+    same("coordinate 16,383 is drawn",
+         pw_line(sheet, sizeof sheet, WIDTH, HEIGHT, WIDTH, 1, 0, 0, 16383, 0, &cells, box), PW_DONE);
     same("the line to 16,383 has the sheet's first row", cells, WIDTH);
     same("coordinate 16,384 is refused with 2",
-         pw_line(sheet, sizeof sheet, WIDTH, HEIGHT, WIDTH, 1, 0, 0, 16384, 0, &cells), PW_COORDINATE);
-    same("s = 6 is drawn", pw_curve(sheet, sizeof sheet, WIDTH, HEIGHT, WIDTH, 1, 0, 0, 2, 4, 4, 0, 6), PW_DONE);
-    same("s = 7 is refused with 4", pw_curve(sheet, sizeof sheet, WIDTH, HEIGHT, WIDTH, 1, 0, 0, 2, 4, 4, 0, 7), PW_PIECES);
+         pw_line(sheet, sizeof sheet, WIDTH, HEIGHT, WIDTH, 1, 0, 0, 16384, 0, &cells, box), PW_COORDINATE);
+    same("s = 6 is drawn", pw_curve(sheet, sizeof sheet, WIDTH, HEIGHT, WIDTH, 1, 0, 0, 2, 4, 4, 0, 6, box), PW_DONE);
+    same("s = 7 is refused with 4",
+         pw_curve(sheet, sizeof sheet, WIDTH, HEIGHT, WIDTH, 1, 0, 0, 2, 4, 4, 0, 7, box), PW_PIECES);
     same("size 0.0 is refused with 6",
-         pw_line_metres(sheet, sizeof sheet, WIDTH, HEIGHT, WIDTH, 1, 0.0, 0.0, 0.0, 0.0, 0.0, 0.0, 0.0, &cells), PW_SURVEY);
+         pw_line_metres(sheet, sizeof sheet, WIDTH, HEIGHT, WIDTH, 1, 0.0, 0.0, 0.0, 0.0, 0.0, 0.0, 0.0, &cells, box),
+         PW_SURVEY);
 
     same("length 1 with one byte after it: 16", file("\x01\x00\x01", 3), PW_KINDLESS);
     same("length 1 with nothing after it: 8", file("\x01\x00", 2), PW_SHORT);

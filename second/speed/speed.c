@@ -28,18 +28,22 @@ void done(uint32_t reply) {
     }
 }
 
+/* the rectangle that the library told last; it outlives the call, so that nothing of its cost can be left out */
+static uint32_t box[4];
+
 static int pistonwool(struct sheet *s, const struct figure *f) {
     size_t len = length(s);
     uint32_t side = s->side, pitch = s->pitch, cells, reply = 0;
     switch (f->kind) {
-    case LINE: reply = pw_line(s->bytes, len, side, side, pitch, 1, f->x0, f->y0, f->x1, f->y1, &cells); break;
-    case CIRCLE: reply = pw_ellipse(s->bytes, len, side, side, pitch, 1, f->x0, f->y0, f->a, f->a); break;
-    case ELLIPSE: reply = pw_ellipse(s->bytes, len, side, side, pitch, 1, f->x0, f->y0, f->a, f->b); break;
+    case LINE: reply = pw_line(s->bytes, len, side, side, pitch, 1, f->x0, f->y0, f->x1, f->y1, &cells, box); break;
+    case CIRCLE: reply = pw_ellipse(s->bytes, len, side, side, pitch, 1, f->x0, f->y0, f->a, f->a, box); break;
+    case ELLIPSE: reply = pw_ellipse(s->bytes, len, side, side, pitch, 1, f->x0, f->y0, f->a, f->b, box); break;
     case CURVE:
-        reply = pw_curve(s->bytes, len, side, side, pitch, 1, f->x0, f->y0, f->x1, f->y1, f->x2, f->y2, f->s);
+        reply = pw_curve(s->bytes, len, side, side, pitch, 1, f->x0, f->y0, f->x1, f->y1, f->x2, f->y2, f->s, box);
         break;
     case CUBIC:
-        reply = pw_cubic(s->bytes, len, side, side, pitch, 1, f->x0, f->y0, f->x1, f->y1, f->x2, f->y2, f->x3, f->y3, f->s);
+        reply = pw_cubic(s->bytes, len, side, side, pitch, 1, f->x0, f->y0, f->x1, f->y1, f->x2, f->y2, f->x3, f->y3, f->s,
+                         box);
         break;
     case LISTING: reply = pw_list(s->xs, s->places, s->ys, s->places, f->x0, f->y0, f->x1, f->y1, &cells); break;
     case FILL:
@@ -78,7 +82,7 @@ static void record(const struct figure *f) {
 static int whole_file(struct sheet *s, const struct figure *f) {
     uint64_t records;
     (void)f;
-    done(pw_file(s->bytes, length(s), s->side, s->side, s->pitch, file, file_length, &records));
+    done(pw_file(s->bytes, length(s), s->side, s->side, s->pitch, file, file_length, &records, box));
     return 1;
 }
 
@@ -291,7 +295,7 @@ static int write_all_plainly(struct sheet *none, const struct figure *f) {
 static void reads(int plainly, size_t n, uint32_t due, uint64_t due_value) {
     uint8_t cell = 0;
     uint64_t value = 0;
-    uint32_t reply = plainly ? plain_read(file, n, &value) : pw_file(&cell, 1, 1, 1, 1, file, n, &value);
+    uint32_t reply = plainly ? plain_read(file, n, &value) : pw_file(&cell, 1, 1, 1, 1, file, n, &value, box);
     if (reply != due || value != due_value) {
         fprintf(stderr, "speed: %s reads a file as %u, %llu\n", plainly ? "C" : "ours", reply, (unsigned long long)value);
         exit(1);
