@@ -1,8 +1,9 @@
 /* examples.c: the checked examples of document 01 that are not starred, those of rings with axes of 0, of cubics, of writing
- * records and of rescuing them, each by its words through the library; the last line counts. */
+ * records, of rescuing them and of rectangles to repaint, each by its words through the library; the last line counts. */
 #include <stdio.h>
 #include <string.h>
 
+#include "examples.h"
 #include "pistonwool.h"
 
 enum { WIDTH = 16, HEIGHT = 8 };
@@ -10,7 +11,7 @@ static uint8_t sheet[WIDTH * HEIGHT];
 static uint32_t box[4];
 static int passed, failed;
 
-static void same(const char *example, long long found, long long expected) {
+void same(const char *example, long long found, long long expected) {
     if (found == expected) {
         passed++;
     } else {
@@ -116,10 +117,11 @@ static const struct written {
 enum { KINDS = sizeof records / sizeof *records };
 
 /* the lent buffer, what it held before, and how much of it is filled */
-static uint8_t buffer[96], before[sizeof buffer];
-static uint64_t filled;
+uint8_t buffer[96];
+static uint8_t before[sizeof buffer];
+uint64_t filled;
 
-static uint32_t append(int kind, const int64_t *n, size_t len) {
+uint32_t append(int kind, const int64_t *n, size_t len) {
     switch (kind) {
     case 1: return pw_write_line(buffer, len, &filled, 1, n[0], n[1], n[2], n[3]);
     case 2: return pw_write_circle(buffer, len, &filled, 1, n[0], n[1], n[2]);
@@ -417,6 +419,7 @@ int main(void) {
     cubics();
     writers();
     rescues();
+    repaints();
 
     printf("%d passed, %d failed\n", passed, failed);
     return failed != 0;
