@@ -8,8 +8,8 @@
 /* counts an example, and says of one that fails what was found and expected */
 void same(const char *example, long long found, long long expected);
 
-/* a buffer for records, of which so many bytes are filled; append lends so many of its bytes to write one with ink 1, by its kind
- * and its numbers, and answers the reply */
+/* a buffer for records, and how many of its bytes are filled; append lends len of them for a record with ink 1, by its
+ * kind and its numbers, and answers the reply */
 extern uint8_t buffer[96];
 extern uint64_t filled;
 uint32_t append(int kind, const int64_t *n, size_t len);

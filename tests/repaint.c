@@ -45,7 +45,7 @@ static int set(void) {
     return n;
 }
 
-/* ways to draw a figure with ink 1: in cells, in metres (lines and rings alone), and as the one record of a file */
+/* ways to draw a figure with ink 1: in cells, as the one record of a file, and lines and rings in metres */
 typedef uint32_t way(const struct sheet *s, enum kind kind, const int64_t *n);
 
 static uint32_t in_cells(const struct sheet *s, enum kind kind, const int64_t *n) {
@@ -86,6 +86,10 @@ static uint32_t in_file(const struct sheet *s, enum kind kind, const int64_t *n)
     return file(s);
 }
 
+/* the ways that know a kind are the first so many */
+static way *const ways[] = {in_cells, in_file, in_metres};
+static size_t ways_of(enum kind kind) { return kind == LINE || kind == RING ? 3 : 2; }
+
 /* holds what was told to these four numbers */
 static void told(const char *example, const char *how, const uint32_t expected[4]) {
     static const char *const names[] = {"x", "y", "width", "height"};
@@ -112,12 +116,9 @@ static void drawn(const struct figure *f, uint32_t width, uint32_t height, way *
 
 /* figures on a sheet of this size, in each way */
 static void figures(const struct figure *figures, size_t count, uint32_t width, uint32_t height) {
-    for (const struct figure *f = figures; f < figures + count; f++) {
-        drawn(f, width, height, in_cells);
-        drawn(f, width, height, in_file);
-        if (f->kind == LINE || f->kind == RING)
-            drawn(f, width, height, in_metres);
-    }
+    for (const struct figure *f = figures; f < figures + count; f++)
+        for (size_t w = 0; w < ways_of(f->kind); w++)
+            drawn(f, width, height, ways[w]);
 }
 
 /* on columns 0 to 16 and rows 0 to 8; {0} is none */
@@ -293,12 +294,9 @@ static void spoilt(const char *example, size_t at, uint8_t byte, uint32_t number
 }
 
 static void refusals(void) {
-    for (int part = UPPER_LEFT; part <= LOWER_LEFT; part++) {
-        refuses_sheets(&parts[part], in_cells);
-        refuses_sheets(&parts[part], in_file);
-        if (parts[part].kind == LINE || parts[part].kind == RING)
-            refuses_sheets(&parts[part], in_metres);
-    }
+    for (int part = UPPER_LEFT; part <= LOWER_LEFT; part++)
+        for (size_t w = 0; w < ways_of(parts[part].kind); w++)
+            refuses_sheets(&parts[part], ways[w]);
     struct sheet s = sheet(WIDTH, HEIGHT, 0);
     for (size_t i = 0; i < sizeof beyond / sizeof *beyond; i++)
         refused(beyond[i].example, beyond[i].draw(&s, beyond[i].kind, beyond[i].n), beyond[i].number);
