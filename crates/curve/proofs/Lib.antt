@@ -5,6 +5,7 @@ pub mod Blend
 pub mod Fits
 pub mod Formula
 pub mod Joining
+pub mod OverLines
 pub mod Points
 pub mod Reversed
 pub mod Round

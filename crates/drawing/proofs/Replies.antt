@@ -10,9 +10,10 @@ use lib.ListN.{length}
 use lib.IntN.{pos, natAbs}
 use lib.Ieee.{Float, nan, ofInt, sub, div, le, lt}
 use Rattle.sheet.specs.Sheet.{coordinate, inLimits, cellOf, semiAxis, axes, split}
-use Rattle.sheet.specs.Reply.{Answer, number, done, told, isDone, valueOf}
+use Rattle.sheet.specs.Reply.{Answer, number, done, told, withBox, isDone, valueOf}
+use Rattle.sheet.specs.Repaint.{nothing, alone, join}
 use Rattle.sheet.specs.Drawing.{ifSheet, markAnswer}
-use Rattle.sheet.specs.Inner.{moved, lowered, movedCell, loweredCell}
+use Rattle.sheet.specs.Inner.{moved, lowered, movedCell, loweredCell, joinedAt}
 use Rattle.sheet.specs.declared.Cell.{Cell}
 use Rattle.sheet.specs.declared.Spot.{Spot}
 use Rattle.sheet.specs.declared.Reply.{Reply}
@@ -21,6 +22,7 @@ use Rattle.sheet.specs.declared.Figure.{Figure}
 use Rattle.sheet.specs.declared.Figure.the-variants.{Line}
 use Rattle.sheet.specs.declared.Refusal.the-variants.{Size, Coordinate}
 use Rattle.sheet.specs.declared.Refusal.the-variants as refusal
+use Rattle.sheet.specs.declared.repaint.Rectangle.{Rectangle}
 use Rattle.sheet.proofs.Empty.{Both, Differ}
 use Rattle.line.specs.Draw.{lineAnswer}
 use Rattle.line.specs.Listing.{listAnswer}
@@ -89,6 +91,17 @@ lift-differs e = let z : _≡_ {A = ℕ} 65536 0 = e in omega arith
 pub lower-differs : Differ lowered 65537 0
 unfolding lowered coordinate
 lower-differs e = let z : _≡_ {A = ℕ} 1 0 = ap natAbs e in omega arith
+
+pub undrawn-differs : Differ (λ (r : Reply). withBox (told r) nothing .number) Done (Refused Coordinate)
+undrawn-differs e = let z : _≡_ {A = ℕ} 0 2 = e in omega arith
+
+pub join-differs : Differ (join nothing) nothing (alone 0 0)
+unfolding join
+join-differs e = let z : _≡_ {A = ℕ} 0 1 = ap (λ (r : Rectangle). r .right) e in omega arith
+
+pub join-at-differs : Differ (λ (c : Cell). joinedAt small c nothing) origin far
+unfolding joinedAt onSheet join
+join-at-differs e = let z : _≡_ {A = ℕ} 1 0 = ap (λ (r : Rectangle). r .right) e in omega arith
 
 pub lift-cell-differs : Differ movedCell origin far
 lift-cell-differs e = lift-differs (ap (λ (p : Spot). p .x) e)

@@ -11,7 +11,9 @@ use denote.Struct.Field.{Field}
 use lib.Dec.{eqb}
 use lib.ListN.{length}
 use lib.IntN.{ℤ, natAbs}
-use Rattle.sheet.specs.Reply.{Answer, number, told, isDone}
+use Rattle.sheet.specs.Repaint.{nothing}
+use Rattle.sheet.specs.Reply.{Answer, number, told, withBox, toldDrawn, isDone}
+use Rattle.sheet.specs.declared.Drawn.{Drawn}
 use Rattle.sheet.specs.declared.Refusal.{Refusal}
 use Rattle.sheet.specs.declared.Refusal.the-variants.{Size, Coordinate, Radius, Pieces, Room, Survey, NoCell, Short, Kind, Length, Full, Slice, Kindless, Work, Start}
 use Rattle.sheet.specs.declared.Reply.{Reply}
@@ -95,6 +97,19 @@ reply-of (RefusedAt r at) = simp (number-not-0 r, refusal-number r)
 -- two replies told alike are equal
 pub told-one : (r q : Reply) → told r ≡ told q → r ≡ q
 told-one r q e = sym (reply-of r) ∙ ap replyOf e ∙ reply-of q
+
+-- and so are two drawings: a reply tells no rectangle of its own
+told-plain : (r : Reply) → withBox (told r) nothing ≡ told r
+told-plain Done = refl
+told-plain (Counted n) = refl
+told-plain (Refused r) = refl
+told-plain (RefusedAt r at) = refl
+
+pub drawn-one : (d e : Drawn) → toldDrawn d ≡ toldDrawn e → d ≡ e
+drawn-one d e p =
+    let replies = told-one (d .reply) (e .reply) (sym (told-plain (d .reply)) ∙ ap (λ (a : Answer). withBox a nothing) p ∙ told-plain (e .reply)) in
+    let boxes : d .rectangle ≡ e .rectangle = ap (λ (a : Answer). a .box) p in
+    λ i. record { reply = replies i; rectangle = boxes i }
 
 -- Two values that meet one equation are equal; so are two replies of one answer, where telling is one-to-one. These serve every public function.
 pub one-value : {A : Type 0} (v w a : A) → v ≡ a → w ≡ a → v ≡ w

@@ -5,11 +5,12 @@ ghost use Rattle.sheet.specs.Sheet.{size, pitched, coordinate, inLimits,
 ghost use Rattle.sheet.specs.Repaint.{nothing};
 ghost use Rattle.sheet.specs.Reply.{number, done, told, withBox, toldDrawn, isDone, valueOf};
 ghost use Rattle.sheet.specs.Drawing.{ifSheet, Draws, markDrawing};
-ghost use Rattle.sheet.specs.Inner.{moved, lowered, movedCell, unmovedCell, loweredCell, inkedAt, joinedAt};
+ghost use Rattle.sheet.specs.Inner.{moved, lowered, movedCell, unmovedCell, loweredCell, inkedAt};
 
 mod repaint;
 
 pub use repaint::Rectangle;
+pub use repaint::join_at;
 
 // A cell of the unlimited grid. A pen that C lends holds two, so it has C's layout.
 #[repr(C)]
@@ -303,36 +304,6 @@ pub fn ink_at(sheet: &mut [u8], shape: Shape, ink: u8, spot: Spot)
         return;
     }
     sheet[at] = ink;
-}
-
-// The rectangle with the cell at the spot in it, where that is on the sheet; any other is skipped.
-pub fn join_at(shape: Shape, spot: Spot, rectangle: Rectangle) -> Rectangle
-    ensures { λ r. ⌜ r ≡ joinedAt shape (unmovedCell spot) rectangle ⌝ }
-{
-    let x = spot.x;
-    let y = spot.y;
-    let width = shape.width;
-    let height = shape.height;
-    if x < 65536 {
-        return rectangle;
-    }
-    if y < 65536 {
-        return rectangle;
-    }
-    let column = x - 65536;
-    let row = y - 65536;
-    if width <= column {
-        return rectangle;
-    }
-    if height <= row {
-        return rectangle;
-    }
-    rectangle.join(Rectangle {
-        left: column,
-        top: row,
-        right: column + 1,
-        bottom: row + 1,
-    })
 }
 
 // Sets one cell to the ink: the smallest drawing.

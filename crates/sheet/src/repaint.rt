@@ -2,6 +2,9 @@
 ghost use mathlib.Core.Path.{_≡_};
 ghost use Prim.Native.Nat.{min, max};
 ghost use Rattle.sheet.specs.Repaint.{nothing, join};
+ghost use Rattle.sheet.specs.Inner.{unmovedCell, joinedAt};
+use crate::Shape;
+use crate::Spot;
 
 // A rectangle of cells: the columns from left to before right, and the rows from top to before bottom. One that holds no cell is
 // from 4,096, which no sheet has, to 0.
@@ -49,4 +52,34 @@ impl Rectangle {
             bottom: larger(self.bottom, other.bottom),
         }
     }
+}
+
+// The rectangle with the cell at the spot in it, where that is on the sheet; any other is skipped.
+pub fn join_at(shape: Shape, spot: Spot, rectangle: Rectangle) -> Rectangle
+    ensures { λ r. ⌜ r ≡ joinedAt shape (unmovedCell spot) rectangle ⌝ }
+{
+    let x = spot.x;
+    let y = spot.y;
+    let width = shape.width;
+    let height = shape.height;
+    if x < 65536 {
+        return rectangle;
+    }
+    if y < 65536 {
+        return rectangle;
+    }
+    let column = x - 65536;
+    let row = y - 65536;
+    if width <= column {
+        return rectangle;
+    }
+    if height <= row {
+        return rectangle;
+    }
+    rectangle.join(Rectangle {
+        left: column,
+        top: row,
+        right: column + 1,
+        bottom: row + 1,
+    })
 }

@@ -1,10 +1,10 @@
--- `sheet::join_at` meets its contract: at each return the tests that led there say whether the cell is on the sheet.
+-- `sheet::repaint::join_at` meets its contract: at each return the tests that led there say whether the cell is on the sheet.
 use mathlib.Core.Path.{_∙_}
 use native.Mathlib.Omega.{arith}
 use borrow.Author.Needs.{needs}
 use Rattle.sheet.proofs.Marks.{join-off, join-on}
-use Rattle.sheet.proofs.join_at.Statement.{statement}
-use Rattle.sheet.proofs.join_at.Tie as tie
+use Rattle.sheet.proofs.repaint.join_at.Statement.{statement}
+use Rattle.sheet.proofs.repaint.join_at.Tie as tie
 
 returns : tie.Need-returns
 returns c = let a = c .before .args in join-off (a .shape) (a .spot) (a .rectangle) (λ i j l m p q. omega arith)
