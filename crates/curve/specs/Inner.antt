@@ -109,5 +109,6 @@ pub record Divides (w : Walk) (shift : ℕ) : Type 0 where
 
 -- what a line adds to what is drawn in one ink, the line's first point included, and to its rectangle
 pub record Adds (k : Shape) (ink : ℕ) (from : Cell) (line : Cell → Bool) (s t : List ℕ) (q r : Rectangle) : Type 0 where
-  pub painted : (f : Cell → Bool) (before : List ℕ) → f from ≡ true → s ≡ paint k ink f before → t ≡ paint k ink (λ (c : Cell). f c || line c) before
+  pub painted : (f : Cell → Bool) (before : List ℕ) → f from ≡ true
+      → s ≡ paint k ink f before → t ≡ paint k ink (λ (c : Cell). f c || line c) before
   pub boxed : (f : Cell → Bool) → f from ≡ true → q ≡ boxOf k f → r ≡ boxOf k (λ (c : Cell). f c || line c)

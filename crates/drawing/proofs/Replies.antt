@@ -9,7 +9,7 @@ use native.Mathlib.Omega.{arith}
 use lib.ListN.{length}
 use lib.IntN.{pos, natAbs}
 use lib.Ieee.{Float, nan, ofInt, sub, div, le, lt}
-use Rattle.sheet.specs.Sheet.{coordinate, inLimits, cellOf, semiAxis, axes, split}
+use Rattle.sheet.specs.Sheet.{onSheet, coordinate, inLimits, cellOf, semiAxis, axes, split}
 use Rattle.sheet.specs.Reply.{Answer, number, done, told, withBox, isDone, valueOf}
 use Rattle.sheet.specs.Repaint.{nothing, alone, join}
 use Rattle.sheet.specs.Drawing.{ifSheet, markAnswer}
@@ -24,7 +24,7 @@ use Rattle.sheet.specs.declared.Refusal.the-variants.{Size, Coordinate}
 use Rattle.sheet.specs.declared.Refusal.the-variants as refusal
 use Rattle.sheet.specs.declared.repaint.Rectangle.{Rectangle}
 use Rattle.sheet.proofs.Empty.{Both, Differ}
-use Rattle.line.specs.Draw.{lineAnswer}
+use Rattle.line.specs.Draw.{lineAnswer, shortOn}
 use Rattle.line.specs.Listing.{listAnswer}
 use Rattle.line.specs.Pen.{fresh, movedOn, beginAnswer, hasCell, nextAnswer, askAnswer}
 use Rattle.ring.specs.Draw.{ellipseAnswer, ellipseDrawing}
@@ -121,6 +121,11 @@ mark-both = record { done = refl; refused = refl }
 pub line-both : Both (λ (b : Cell). lineAnswer small origin b 1) origin far
 unfolding lineAnswer ifSheet inLimits coordinate
 line-both = record { done = refl; refused = refl }
+
+-- two cells side by side on a sheet of two, and the same of one byte
+pub short-differs : Differ (shortOn (record { width = 2; height = 1; pitch = 2 }) origin (cellOf 1 0)) 2 1
+unfolding shortOn onSheet
+short-differs e = true≢false e
 
 pub list-both : Both (listAnswer 1 1 origin) origin far
 unfolding listAnswer inLimits coordinate

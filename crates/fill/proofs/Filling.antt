@@ -12,7 +12,6 @@ use lib.Signed.{leZ, ltZ}
 use Rattle.laws.proofs.Parts.{dn}
 use Rattle.sheet.specs.Sheet.{onSheet, cellOf}
 use Rattle.sheet.specs.Reply.{Answer, done, isDone}
-use Rattle.sheet.specs.Drawing.{Paints}
 use Rattle.sheet.specs.Inner.{fits}
 use Rattle.sheet.specs.declared.Cell.{Cell}
 use Rattle.sheet.specs.declared.Shape.{Shape}

@@ -19,7 +19,7 @@ use Rattle.sheet.proofs.Count.{cells-pitch}
 use Rattle.sheet.proofs.Limits.{fits-disjoint}
 use Rattle.sheet.proofs.Pitch.{padding-stays, paint-alike, paints-any-pitch, on-sheets}
 use Rattle.fill.specs.Territory.{Open, Reach}
-use Rattle.fill.specs.Fill.{fillAnswer, fillDrawing, Fills}
+use Rattle.fill.specs.Fill.{fillAnswer, Fills}
 use Rattle.fill.proofs.Reaching.{reach-then, reach-back, reach-as, tests-same}
 use Rattle.fill.proofs.Outcome.{finished, turns-not, told-by}
 

@@ -1,36 +1,23 @@
 -- The rectangle of a line whose ends are on the sheet: that of its two ends.
-use Prim.Native.Nat.{ℕ, _-_, _≤_}
-use mathlib.Core.Path.{_≡_, refl, sym, subst, ap, ap₂, _∙_}
+use Prim.Native.Nat.{_-_, _≤_}
+use mathlib.Core.Path.{_≡_, refl, sym, ap, ap₂, _∙_}
 use mathlib.Core.Bool.{true}
 use native.Mathlib.Omega.{arith}
-use lib.Dec.{T}
-use Rattle.sheet.specs.Sheet.{onSheet, isCell, cellOf}
+use Rattle.sheet.specs.Sheet.{onSheet, isCell}
 use Rattle.sheet.specs.Repaint.{alone, join, boxOf}
 use Rattle.sheet.specs.Inner.{unmovedCell}
 use Rattle.sheet.specs.declared.Cell.{Cell}
 use Rattle.sheet.specs.declared.Shape.{Shape}
 use Rattle.sheet.specs.declared.Spot.{Spot}
 use Rattle.sheet.proofs.Boxes.{rectangle-is}
-use Rattle.sheet.proofs.Cells.{sheet-cell, is-cell-refl}
 use Rattle.sheet.proofs.Limits.{unmoved-cell}
-use Rattle.sheet.proofs.Marks.{spot→, box-one}
+use Rattle.sheet.proofs.Marks.{box-one}
 use Rattle.line.specs.Rule.{onLine}
 use Rattle.line.specs.Inner.Course.{courseOf}
 use Rattle.line.specs.Inner.Span.{On, spanning}
 use Rattle.line.proofs.Answers.{spot-lifted, on-limits, line-runs, line-boxed}
+use Rattle.line.proofs.OnSheet.{on-of}
 use Rattle.line.proofs.Whole.{whole-box}
-
--- a spot that stands for a cell of the sheet is on it
-on-of : (k : Shape) (p : Spot) → onSheet k (unmovedCell p) ≡ true → On k p
-on-of k p e =
-    let o = sheet-cell k (unmovedCell p) e in
-    let f = spot→ p (o .column) (o .row) (subst (λ (c : Cell). T (isCell (unmovedCell p) c)) (o .is-cell) (is-cell-refl (unmovedCell p))) in
-    record {
-      left = omega (arith, f .0);
-      top = omega (arith, f .1);
-      right = omega (arith, f .0, o .in-width);
-      bottom = omega (arith, f .1, o .in-height);
-    }
 
 module _ (k : Shape) (w : k .width ≤ 4096) (h : k .height ≤ 4096) where
   spot-box : (p : Spot) → On k p → boxOf k (isCell (unmovedCell p)) ≡ alone (p .x - 65536) (p .y - 65536)

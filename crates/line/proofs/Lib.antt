@@ -19,11 +19,13 @@ pub mod ListReplies
 pub mod Listed
 pub mod Marked
 pub mod OnLine
+pub mod OnSheet
 pub mod Pens
 pub mod Place
 pub mod Ranges
 pub mod Replies
 pub mod Rise
+pub mod Short
 pub mod Third
 pub mod Touching
 pub mod Walking

@@ -14,7 +14,7 @@ use Rattle.laws.proofs.Products.{lt-or-ge, mul-lt-back}
 use Rattle.laws.proofs.Tests.{is-true, is-false, from-true}
 use Rattle.sheet.specs.Sheet.{cellOf, isCell, cellsOn}
 use Rattle.sheet.specs.Repaint.{nothing, boxOf, Holds, Set}
-use Rattle.sheet.specs.Reply.{Answer, done, withBox}
+use Rattle.sheet.specs.Reply.{done, withBox}
 use Rattle.sheet.specs.Inner.{unmovedCell}
 use Rattle.sheet.specs.declared.Cell.{Cell}
 use Rattle.sheet.specs.declared.Shape.{Shape}
@@ -25,8 +25,8 @@ use Rattle.sheet.proofs.Cells.{is-cell-refl}
 use Rattle.sheet.proofs.Limits.{unmoved-cell}
 use Rattle.sheet.proofs.Marks.{spot→}
 use Rattle.line.specs.Rule.{rise}
-use Rattle.line.specs.Inner.Course.{stepped, spotAt, Runs, firstCells}
-use Rattle.line.specs.Inner.Span.{stepsX, stepsY, On, Spans, spanning, toldCells}
+use Rattle.line.specs.Inner.Course.{stepped, spotAt, firstCells}
+use Rattle.line.specs.Inner.Span.{stepsX, On, Spans, spanning, toldCells}
 use Rattle.line.specs.declared.Course.{Course}
 use Rattle.line.proofs.Marked.{is-on}
 use Rattle.line.proofs.Rise.{rise-low, rise-high, rise-none}

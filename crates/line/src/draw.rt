@@ -1,14 +1,15 @@
 // Drawing a line: the range of its cells that are on the sheet is worked out once, and walked with no test for each cell.
 ghost use mathlib.Core.Path.{_≡_};
 ghost use mathlib.Core.Logic.{_⊎_};
-ghost use mathlib.Core.Bool.{true, cond};
+ghost use mathlib.Core.Bool.{cond};
+ghost use lib.ListN.{length};
 ghost use Prim.Native.Nat.{_+_, _-_, _*_, _/_, _%_, _≤_, _<_};
 ghost use Rattle.sheet.specs.Sheet.{onSheet, inLimits, paint};
 ghost use Rattle.sheet.specs.Reply.{toldDrawn};
 ghost use Rattle.sheet.specs.Drawing.{Draws};
 ghost use Rattle.sheet.specs.Inner.{Sheet, Disjoint, unmovedCell};
 ghost use Rattle.line.specs.Rule.{rise, onLine};
-ghost use Rattle.line.specs.Draw.{lineDrawing};
+ghost use Rattle.line.specs.Draw.{lineDrawing, shortOn};
 ghost use Rattle.line.specs.Inner.Course.{spotAt, Runs, firstCells};
 ghost use Rattle.line.specs.Inner.Fixed.{gone, Climbs};
 ghost use Rattle.line.specs.Inner.Span.{enters, leaves, FirstAt, Enters, Leaves, On, Spans, byteOf, aloneBy, bothBy, spanning, toldCells};
@@ -126,7 +127,7 @@ fn part(t: u64) -> u32
 // Whether a spot is on the sheet.
 fn is_on(shape: Shape, spot: Spot) -> bool
     requires { ⌜ (shape .width ≤ 4096) × (shape .height ≤ 4096) ⌝ }
-    ensures { λ r. ⌜ (r ≡ true → On shape spot) ⌝ }
+    ensures { λ r. ⌜ r ≡ onSheet shape (unmovedCell spot) ⌝ }
 {
     let x = spot.x;
     let y = spot.y;
@@ -379,8 +380,9 @@ pub fn draw_between(sheet: &mut [u8], shape: Shape, ink: u8, from: Spot, to: Spo
 
 // Draws the line between two spots on the sheet, where it has 2 to 128 cells, as most pieces of a curve have; whether it did.
 pub fn draw_short(sheet: &mut [u8], shape: Shape, ink: u8, from: Spot, to: Spot) -> bool
-    ensures { λ r. ⌜ now (sheet .exit) ≡ cond r (paint shape ink (onLine (unmovedCell from) (unmovedCell to)) (now (sheet .entry))) (now (sheet .entry)) ⌝ }
-    ensures { λ r. ⌜ (r ≡ true → (onSheet shape (unmovedCell from) ≡ true) × (onSheet shape (unmovedCell to) ≡ true)) ⌝ }
+    ensures { λ r. ⌜ r ≡ shortOn shape (unmovedCell from) (unmovedCell to) (length (now (sheet .entry))) ⌝ }
+    ensures { λ r. ⌜ now (sheet .exit)
+        ≡ cond r (paint shape ink (onLine (unmovedCell from) (unmovedCell to)) (now (sheet .entry))) (now (sheet .entry)) ⌝ }
 {
     let tested = sheet::check(shape, sheet.len());
     if !tested.is_done() {

@@ -1,19 +1,18 @@
 -- The laws of `boxOf`, the smallest rectangle that holds a figure's cells on the sheet.
-use Prim.Native.Nat.{ℕ, zero, suc, _+_, _≤_, _<_, min, max}
+use Prim.Native.Nat.{ℕ, zero, suc, _≤_, _<_}
 use mathlib.Core.Path.{_≡_, refl, sym, subst, ap, ap₂, _∙_}
 use mathlib.Core.Logic.{_⊎_, inl, inr}
-use mathlib.Core.Bool.{Bool, true, false, cond, _||_, true≢false, or-true}
+use mathlib.Core.Bool.{Bool, true, false, cond, _||_, true≢false}
 use native.Mathlib.Omega.{arith}
 use lib.Dec.{T}
 use Rattle.laws.proofs.Products.{lt-or-ge}
 use Rattle.laws.proofs.Tests.{is-true, from-true, or-l, or-r, or-e}
-use Rattle.sheet.specs.Sheet.{cellOf, isCell}
-use Rattle.sheet.specs.Repaint.{nothing, alone, join, joinBelow, boxOf, Holds, Within, Set, HoldsAll, Smallest}
+use Rattle.sheet.specs.Sheet.{cellOf}
+use Rattle.sheet.specs.Repaint.{nothing, alone, join, joinBelow, boxOf, Holds, Within, Set, HoldsAll}
 use Rattle.sheet.specs.Drawing.{only, boxAll}
 use Rattle.sheet.specs.declared.Cell.{Cell}
 use Rattle.sheet.specs.declared.Shape.{Shape}
 use Rattle.sheet.specs.declared.repaint.Rectangle.{Rectangle}
-use Rattle.sheet.proofs.Cells.{is-cell→, is-cell-refl}
 
 -- a rectangle that begins where a sheet may: of these nothing is the unit
 pub record Low (r : Rectangle) : Type 0 where

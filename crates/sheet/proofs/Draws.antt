@@ -1,12 +1,11 @@
 -- The laws of `Paints` and `Draws`.
 use Prim.Native.Nat.{ℕ}
-use mathlib.Core.Path.{_≡_, refl, sym, subst, ap, _∙_}
+use mathlib.Core.Path.{_≡_, sym, subst, ap, _∙_}
 use mathlib.Core.List.{List}
 use mathlib.Core.Bool.{Bool, true, false, cond}
 use lib.ListN.{length}
-use lib.IntN.{ℤ}
 use Rattle.sheet.specs.Repaint.{nothing}
-use Rattle.sheet.specs.Reply.{Answer, done, refuse, withBox, isDone, settled}
+use Rattle.sheet.specs.Reply.{Answer, refuse, withBox, isDone, settled}
 use Rattle.sheet.specs.Drawing.{paintAll, boxAll, Drawing, Paints, telling, Draws}
 use Rattle.sheet.specs.declared.Refusal.{Refusal}
 use Rattle.sheet.specs.declared.repaint.Rectangle.{Rectangle}

@@ -30,6 +30,11 @@ done-after true true e = refl
 done-after true false e = absurd (true≢false (sym e))
 done-after false t e = absurd (true≢false (sym e))
 
+not-after : (s t : Bool) → isDone (after s t (done [])) ≡ false → (s && t) ≡ false
+not-after true true e = absurd (true≢false e)
+not-after true false e = refl
+not-after false t e = refl
+
 refused-after : (s t : Bool) (next : Answer) → isDone (after s t (done [])) ≡ false → after s t next ≡ after s t (done [])
 refused-after true true next e = absurd (true≢false e)
 refused-after true false next e = refl
@@ -84,6 +89,10 @@ module _ (k : Shape) (n : ℕ) where
     pub is-sheet : not r ≡ false → fits k n ≡ true
     unfolding ifSheet fits
     is-sheet e = done-after (sized k) (sliced k n) (ap isDone (sym tested) ∙ yes _ _ asked e)
+
+    pub is-no-sheet : not r ≡ true → fits k n ≡ false
+    unfolding ifSheet fits
+    is-no-sheet e = not-after (sized k) (sliced k n) (ap isDone (sym tested) ∙ no _ _ asked e)
 
 -- a drawing that is refused for its sheet
 pub sheet-refused : (d : Drawing) (k : Shape) (s : List ℕ) (a b : Answer) (r : Bool) (next : Answer) → d .answer (length s) ≡ ifSheet k (length s) next

@@ -11,7 +11,7 @@ use lib.IntN.{pos, natAbs}
 use Rattle.laws.proofs.Ints.{from-≡ℤ, up-sub, dn-sub}
 use Rattle.laws.proofs.Tests.{is-true, is-false, from-true}
 use Rattle.sheet.specs.Sheet.{onSheet, cellOf, isCell, paint, place}
-use Rattle.sheet.specs.Repaint.{nothing, alone, join, boxOf, Within, Set}
+use Rattle.sheet.specs.Repaint.{nothing, alone, join, boxOf, Set}
 use Rattle.sheet.specs.Inner.{unmoved, unmovedCell, inkedAt, joinedAt, Disjoint}
 use Rattle.sheet.specs.declared.Cell.{Cell}
 use Rattle.sheet.specs.declared.Shape.{Shape}

@@ -1,7 +1,7 @@
 -- What is shown of the rectangle that a drawing tells.
 use Prim.Native.Nat.{ℕ, _≤_}
-use mathlib.Core.Path.{_≡_, subst}
-use mathlib.Core.Bool.{Bool, true}
+use mathlib.Core.Path.{subst}
+use mathlib.Core.Bool.{Bool}
 use native.Mathlib.Omega.{arith}
 use Rattle.laws.proofs.Tests.{is-true, is-false}
 use Rattle.sheet.specs.Repaint.{nothing, boxOf, Holds, Within, Set, HoldsAll, Smallest}

@@ -1,7 +1,7 @@
 -- Document 02, K7: what to repaint. The smallest rectangle that holds the cells of a figure on the sheet.
 use Prim.Native.Nat.{ℕ, zero, suc, _+_, _≤_, _<_, min, max}
 use mathlib.Core.Path.{_≡_}
-use mathlib.Core.Bool.{Bool, true, false, cond, _||_}
+use mathlib.Core.Bool.{Bool, true, cond, _||_}
 use Rattle.sheet.specs.Sheet.{cellOf}
 use Rattle.sheet.specs.declared.Cell.{Cell}
 use Rattle.sheet.specs.declared.Shape.{Shape}
@@ -58,7 +58,8 @@ pub record Smallest (k : Shape) (figure : Cell → Bool) : Type 0 where
   -- otherwise it holds each of them, and lies within every rectangle that does: no other does so
   pub holds : HoldsAll k figure (boxOf k figure)
   pub least : (r : Rectangle) → HoldsAll k figure r → (x y : ℕ) → Set k figure x y → Within (boxOf k figure) r
-  pub only : (r : Rectangle) → HoldsAll k figure r → ((q : Rectangle) → HoldsAll k figure q → Within r q) → (x y : ℕ) → Set k figure x y → r ≡ boxOf k figure
+  pub only : (r : Rectangle) → HoldsAll k figure r → ((q : Rectangle) → HoldsAll k figure q → Within r q)
+      → (x y : ℕ) → Set k figure x y → r ≡ boxOf k figure
   -- two figures together have the join of their rectangles, of which that of no cell is the unit
   pub together : (other : Cell → Bool) → boxOf k (λ (c : Cell). figure c || other c) ≡ join (boxOf k figure) (boxOf k other)
   pub unit : (join (boxOf k figure) nothing ≡ boxOf k figure) × (join nothing (boxOf k figure) ≡ boxOf k figure)

@@ -13,6 +13,7 @@ use Rattle.sheet.specs.Inner.{unmovedCell, fits}
 use Rattle.sheet.proofs.Limits.{sheet-fits}
 use Rattle.line.specs.Rule.{long, onLine}
 use Rattle.line.proofs.Answers.{spot-lifted, line-drawn, line-told-box}
+use Rattle.line.proofs.Short.{short-on}
 use Rattle.line.proofs.Touching.{spots-touch}
 use borrow.Author.Needs.{needs}
 use Rattle.curve.proofs.Adding.{near-adds, short-adds, part-adds}
@@ -76,8 +77,8 @@ returns-2 c =
     let s = now (a .sheet) in
     let line = onLine (unmovedCell (a .from)) (unmovedCell (a .to)) in
     let told = called .draw-short .ensures in
-    short-adds (a .shape) (a .ink) (a .from) (a .to) s _ (a .rectangle) _ (start .pre .0) (told .1 (tested .if2 .taken))
-    (told .0 ∙ ap (λ (t : Bool). cond t (paint (a .shape) (a .ink) line s) s) (tested .if2 .taken)) (c .join-at2 .ensures)
+    short-adds (a .shape) (a .ink) (a .from) (a .to) s _ (a .rectangle) _ (start .pre .0) (short-on _ _ _ _ (sym (told .0) ∙ tested .if2 .taken))
+    (told .1 ∙ ap (λ (t : Bool). cond t (paint (a .shape) (a .ink) line s) s) (tested .if2 .taken)) (c .join-at2 .ensures)
 
 draw-between-requires : tie.Need-draw-between-requires
 draw-between-requires c κs = search needs
@@ -99,7 +100,7 @@ returns-3 c =
     let s = now (a .sheet) in
     let from = unmovedCell (a .from) in
     let to = unmovedCell (a .to) in
-    let same = tried .draw-short .ensures .0 ∙ ap (λ (t : Bool). cond t (paint k (a .ink) (onLine from to) s) s) (tested .if2 .left) in
+    let same = tried .draw-short .ensures .1 ∙ ap (λ (t : Bool). cond t (paint k (a .ink) (onLine from to) s) s) (tested .if2 .left) in
     let fit = ap (λ (u : List ℕ). fits k (length u)) same ∙ sheet-fits k s (start .pre .0) in
     let told = called .draw-between .ensures in
     part-adds k (a .ink) from to s _ (a .rectangle) _

@@ -16,6 +16,7 @@ use Rattle.line.specs.Draw.{lineAnswer, lineDrawing}
 use Rattle.line.specs.Inner.Course.{Runs}
 use Rattle.line.specs.Inner.Span.{On, Spans}
 use Rattle.line.proofs.Answers.{spot-lifted, on-limits, line-runs, line-done}
+use Rattle.line.proofs.OnSheet.{on-of}
 use Rattle.line.proofs.Spanned.{told-cells}
 use Rattle.line.proofs.Walking.{counted}
 use Rattle.line.proofs.Whole.{course-whole, whole-box}
@@ -36,7 +37,7 @@ ends-on c =
     let u = c .before .before .is-on in
     let v = c .before .is-on2 in
     let h = halves (u .result) (v .result) (c .if2 .taken) in
-    (u .ensures (h .0), v .ensures (h .1))
+    (on-of _ _ (sym (u .ensures) ∙ h .0), on-of _ _ (sym (v .ensures) ∙ h .1))
 
 within : (c : tie.Then2) → let a = c .before .before .before .before .before .before .before .args in
     (inLimits (unmovedCell (a .from)) ≡ true) × (inLimits (unmovedCell (a .to)) ≡ true)

@@ -1,38 +1,45 @@
 -- `line::draw::draw_short` meets its contract.
-use Prim.Native.Nat.{_+_, _≤_, _<_}
-use mathlib.Core.Path.{_≡_, refl, sym}
-use mathlib.Core.Bool.{true, true≢false}
+use Prim.Native.Nat.{_+_, _<_}
+use mathlib.Core.Path.{_≡_, refl, sym, ap, _∙_}
+use mathlib.Core.Bool.{true, _&&_}
 use native.Mathlib.Omega.{arith}
+use lib.Dec.{ltb}
 use lib.ListN.{length}
 use denote.Ref.{now}
 use borrow.Author.Tests.{ltb-true}
-use Rattle.laws.proofs.Tests.{yes, halves}
-use Rattle.sheet.specs.Sheet.{inLimits}
-use Rattle.sheet.specs.Inner.{Sheet, unmovedCell}
-use Rattle.sheet.proofs.Lent.{is-sheet}
+use Rattle.laws.proofs.Tests.{no, yes, halves}
+use Rattle.sheet.specs.Sheet.{onSheet, inLimits}
+use Rattle.sheet.specs.Inner.{Sheet, unmovedCell, fits}
+use Rattle.sheet.proofs.Lent.{is-sheet, is-no-sheet}
 use Rattle.sheet.proofs.Limits.{fits-sheet}
-use Rattle.sheet.proofs.Marks.{spot-on}
+use Rattle.line.specs.declared.Course.{Course}
+use Rattle.line.specs.Rule.{long}
 use Rattle.line.specs.Inner.Course.{Runs}
 use Rattle.line.specs.Inner.Span.{On, Spans}
 use Rattle.line.proofs.Answers.{spot-lifted, on-limits, line-runs, line-painted}
+use Rattle.line.proofs.Bridge.{course-long}
+use Rattle.line.proofs.OnSheet.{on-of}
 use Rattle.line.proofs.Rise.{rise-start}
+use Rattle.line.proofs.Short.{short-sheet, short-ends, short-length, short-asked}
 use Rattle.line.proofs.Whole.{course-whole}
 use borrow.Author.Needs.{needs}
 use Rattle.line.proofs.draw.draw_short.Statement.{statement}
 use Rattle.line.proofs.draw.draw_short.Tie as tie
 
 -- what each test showed
+fitted : (c : tie.Else1) → let a = c .before .before .before .before .args in fits (a .shape) (length (now (a .sheet))) ≡ true
+fitted c = let asked = c .before in is-sheet _ _ _ _ (asked .before .check .ensures) (asked .is-done .ensures) (c .if1 .left)
+
 lent : (c : tie.Else1) → let a = c .before .before .before .before .args in Sheet (a .shape) (now (a .sheet))
-lent c =
-    let asked = c .before in
-    fits-sheet _ _ (is-sheet _ _ _ _ (asked .before .check .ensures) (asked .is-done .ensures) (c .if1 .left))
+lent c = let a = c .before .before .before .before .args in fits-sheet (a .shape) (now (a .sheet)) (fitted c)
+
+-- the code's test of both ends
+both-on : (c : tie.After-is-on2) → let a = c .before .before .before .before .before .before .args in
+    (c .before .is-on .result && c .is-on2 .result) ≡ (onSheet (a .shape) (unmovedCell (a .from)) && onSheet (a .shape) (unmovedCell (a .to)))
+both-on c = λ i. c .before .is-on .ensures i && c .is-on2 .ensures i
 
 ends-on : (c : tie.Else2) → let a = c .before .before .before .before .before .before .before .args in On (a .shape) (a .from) × On (a .shape) (a .to)
-ends-on c =
-    let u = c .before .before .is-on in
-    let v = c .before .is-on2 in
-    let h = halves (u .result) (v .result) (yes _ _ refl (c .if2 .left)) in
-    (u .ensures (h .0), v .ensures (h .1))
+ends-on c = let h = halves _ _ (yes _ _ (both-on (c .before)) (c .if2 .left)) in (on-of _ _ (h .0), on-of _ _ (h .1))
 
 within : (c : tie.Else2) → let a = c .before .before .before .before .before .before .before .args in (inLimits (unmovedCell (a .from)) ≡ true) × (inLimits (unmovedCell (a .to)) ≡ true)
 within c =
@@ -53,6 +60,15 @@ spanned c =
     let o = ends-on (c .before) in
     course-whole (a .shape) _ (a .from) (a .to) (c .course-of .ensures) (runs-on c) (o .0) (o .1)
 
+-- the code's test of its length
+both-long : (c : tie.After-course-of) → let a = c .before .before .before .before .before .before .before .before .args in
+    let l = c .course-of .result .long in let L = long (unmovedCell (a .from)) (unmovedCell (a .to)) in (ltb 0 l && ltb l 128) ≡ (ltb 0 L && ltb L 128)
+both-long c =
+    let a = c .before .before .before .before .before .before .before .before .args in
+    let w = within (c .before) in
+    let e = ap (λ (d : Course). d .long) (c .course-of .ensures) ∙ course-long _ _ (a .from) (a .to) (spot-lifted (a .from) (w .0)) (spot-lifted (a .to) (w .1)) in
+    λ i. ltb 0 (e i) && ltb (e i) 128
+
 short : (c : tie.Else3) → let course = c .before .course-of .result in (0 < course .long) × (course .long < 128)
 short c = let h = halves _ _ (yes _ _ refl (c .if3 .left)) in (ltb-true _ _ (h .0), ltb-true _ _ (h .1))
 
@@ -63,7 +79,9 @@ is-done-requires : tie.Need-is-done-requires
 is-done-requires c κs = search needs
 
 returns : tie.Need-returns
-returns c = (refl, λ e. absurd (true≢false (sym e)))
+returns c =
+    let asked = c .before in
+    (sym (short-sheet _ _ _ _ (is-no-sheet _ _ _ _ (asked .before .check .ensures) (asked .is-done .ensures) (c .if1 .taken))), refl)
 
 is-on-requires : tie.Need-is-on-requires
 is-on-requires c κs = let k = lent c in (k .wide, k .high)
@@ -72,13 +90,13 @@ is-on-requires-2 : tie.Need-is-on-requires-2
 is-on-requires-2 c κs = let k = lent (c .before) in (k .wide, k .high)
 
 returns-2 : tie.Need-returns-2
-returns-2 c = (refl, λ e. absurd (true≢false (sym e)))
+returns-2 c = (sym (short-ends _ _ _ _ (no _ _ (both-on (c .before)) (c .if2 .taken))), refl)
 
 course-of-requires : tie.Need-course-of-requires
 course-of-requires c κs = search needs
 
 returns-3 : tie.Need-returns-3
-returns-3 c = (refl, λ e. absurd (true≢false (sym e)))
+returns-3 c = (sym (short-length _ _ _ _ (no _ _ (both-long (c .before)) (c .if3 .taken))), refl)
 
 byte-at-requires : tie.Need-byte-at-requires
 byte-at-requires c κs =
@@ -107,15 +125,13 @@ same-length c = search needs
 returns-4 : tie.Need-returns-4
 returns-4 c =
     let called = c .before .before in
-    let charted = called .before .before .before .before .before in
+    let measured = called .before .before .before .before in
+    let charted = measured .before in
+    let ended = charted .before in
     let a = charted .before .before .before .before .before .before .before .before .args in
-    let w = within (charted .before) in
-    let o = ends-on (charted .before) in (
+    let w = within ended in (
+      sym (short-asked _ _ _ _ (fitted (ended .before .before .before)) (yes _ _ (both-on (ended .before)) (ended .if2 .left)) (yes _ _ (both-long charted) (measured .if3 .left))),
       line-painted (a .shape) _ _ _ _ _ (spot-lifted (a .from) (w .0)) (spot-lifted (a .to) (w .1)) (charted .course-of .ensures) (a .ink) _ _ (called .walk .ensures),
-      λ _. (
-        spot-on (a .shape) (a .from) (o .0 .left) (o .0 .top) (omega (arith, o .0 .left, o .0 .right)) (omega (arith, o .0 .top, o .0 .bottom)),
-        spot-on (a .shape) (a .to) (o .1 .left) (o .1 .top) (omega (arith, o .1 .left, o .1 .right)) (omega (arith, o .1 .top, o .1 .bottom)),
-      ),
     )
 
 pub draw-short-spec : {M : Type 1} → statement M

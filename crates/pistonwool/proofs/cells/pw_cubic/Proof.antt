@@ -32,8 +32,10 @@ returns c =
     let p1 = cell-back (a .x1) (a .y1) (f .x1) (f .y1) in
     let p2 = cell-back (a .x2) (a .y2) (f .x2) (f .y2) in
     let p3 = cell-back (a .x3) (a .y3) (f .x3) (f .y3) in
-    draws-number (curveDrawing (shapeOf (a .width) (a .height) (a .pitch)) (a .ink) (cell (a .x0) (a .y0) ∷ cell (a .x1) (a .y1) ∷ cell (a .x2) (a .y2) ∷ cell (a .x3) (a .y3) ∷ []) (a .s)) _ _ _
-    (draws-as (curveDrawing (shapeOf (a .width) (a .height) (a .pitch)) (a .ink) _ (a .s)) _ (curveDrawing (shapeOf (a .width) (a .height) (a .pitch)) (a .ink) (cell (a .x0) (a .y0) ∷ cell (a .x1) (a .y1) ∷ cell (a .x2) (a .y2) ∷ cell (a .x3) (a .y3) ∷ []) (a .s)) _ _ (λ i. curveDrawing (shapeOf (a .width) (a .height) (a .pitch)) (a .ink) (p0 i ∷ p1 i ∷ p2 i ∷ p3 i ∷ []) (a .s)) (called .draw-cubic .ensures))
+    let k = shapeOf (a .width) (a .height) (a .pitch) in
+    let drawing = curveDrawing k (a .ink) (cell (a .x0) (a .y0) ∷ cell (a .x1) (a .y1) ∷ cell (a .x2) (a .y2) ∷ cell (a .x3) (a .y3) ∷ []) (a .s) in
+    draws-number drawing _ _ _
+    (draws-as (curveDrawing k (a .ink) _ (a .s)) _ drawing _ _ (λ i. curveDrawing k (a .ink) (p0 i ∷ p1 i ∷ p2 i ∷ p3 i ∷ []) (a .s)) (called .draw-cubic .ensures))
     _ _ _ (curve-tells _ _ _ _) (c .number .ensures) (c .before .tell-box .ensures)
 
 pub pw-cubic-spec : {M : Type 1} → statement M

@@ -31,8 +31,10 @@ returns c =
     let p0 = cell-back (a .x0) (a .y0) (f .x0) (f .y0) in
     let p1 = cell-back (a .x1) (a .y1) (f .x1) (f .y1) in
     let p2 = cell-back (a .x2) (a .y2) (f .x2) (f .y2) in
-    draws-number (curveDrawing (shapeOf (a .width) (a .height) (a .pitch)) (a .ink) (cell (a .x0) (a .y0) ∷ cell (a .x1) (a .y1) ∷ cell (a .x2) (a .y2) ∷ []) (a .s)) _ _ _
-    (draws-as (curveDrawing (shapeOf (a .width) (a .height) (a .pitch)) (a .ink) _ (a .s)) _ (curveDrawing (shapeOf (a .width) (a .height) (a .pitch)) (a .ink) (cell (a .x0) (a .y0) ∷ cell (a .x1) (a .y1) ∷ cell (a .x2) (a .y2) ∷ []) (a .s)) _ _ (λ i. curveDrawing (shapeOf (a .width) (a .height) (a .pitch)) (a .ink) (p0 i ∷ p1 i ∷ p2 i ∷ []) (a .s)) (called .draw-curve .ensures))
+    let k = shapeOf (a .width) (a .height) (a .pitch) in
+    let drawing = curveDrawing k (a .ink) (cell (a .x0) (a .y0) ∷ cell (a .x1) (a .y1) ∷ cell (a .x2) (a .y2) ∷ []) (a .s) in
+    draws-number drawing _ _ _
+    (draws-as (curveDrawing k (a .ink) _ (a .s)) _ drawing _ _ (λ i. curveDrawing k (a .ink) (p0 i ∷ p1 i ∷ p2 i ∷ []) (a .s)) (called .draw-curve .ensures))
     _ _ _ (curve-tells _ _ _ _) (c .number .ensures) (c .before .tell-box .ensures)
 
 pub pw-curve-spec : {M : Type 1} → statement M

@@ -27,8 +27,10 @@ returns c =
     let start = called .before .before .before in
     let a = start .args in
     let centre = cell-back (a .x) (a .y) (start .fits .x) (start .fits .y) in
-    draws-number (ellipseDrawing (shapeOf (a .width) (a .height) (a .pitch)) (a .ink) (cell (a .x) (a .y)) (a .a) (a .b)) _ _ _
-    (draws-as (ellipseDrawing (shapeOf (a .width) (a .height) (a .pitch)) (a .ink) _ (a .a) (a .b)) _ (ellipseDrawing (shapeOf (a .width) (a .height) (a .pitch)) (a .ink) (cell (a .x) (a .y)) (a .a) (a .b)) _ _ (λ i. ellipseDrawing (shapeOf (a .width) (a .height) (a .pitch)) (a .ink) (centre i) (a .a) (a .b)) (called .draw-ellipse .ensures))
+    let k = shapeOf (a .width) (a .height) (a .pitch) in
+    let drawing = ellipseDrawing k (a .ink) (cell (a .x) (a .y)) (a .a) (a .b) in
+    draws-number drawing _ _ _
+    (draws-as (ellipseDrawing k (a .ink) _ (a .a) (a .b)) _ drawing _ _ (λ i. ellipseDrawing k (a .ink) (centre i) (a .a) (a .b)) (called .draw-ellipse .ensures))
     _ _ _ (ellipse-tells _ _ _ _ _) (c .number .ensures) (c .before .tell-box .ensures)
 
 pub pw-ellipse-spec : {M : Type 1} → statement M

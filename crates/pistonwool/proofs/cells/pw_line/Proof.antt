@@ -32,8 +32,10 @@ returns c =
     let f = start .fits in
     let from = cell-back (a .x0) (a .y0) (f .x0) (f .y0) in
     let to = cell-back (a .x1) (a .y1) (f .x1) (f .y1) in
-    draws-count (lineDrawing (shapeOf (a .width) (a .height) (a .pitch)) (a .ink) (cell (a .x0) (a .y0)) (cell (a .x1) (a .y1))) _ _ _
-    (draws-as (lineDrawing (shapeOf (a .width) (a .height) (a .pitch)) (a .ink) _ _) _ (lineDrawing (shapeOf (a .width) (a .height) (a .pitch)) (a .ink) (cell (a .x0) (a .y0)) (cell (a .x1) (a .y1))) _ _ (λ i. lineDrawing (shapeOf (a .width) (a .height) (a .pitch)) (a .ink) (from i) (to i)) (called .draw-line .ensures))
+    let k = shapeOf (a .width) (a .height) (a .pitch) in
+    let drawing = lineDrawing k (a .ink) (cell (a .x0) (a .y0)) (cell (a .x1) (a .y1)) in
+    draws-count drawing _ _ _
+    (draws-as (lineDrawing k (a .ink) _ _) _ drawing _ _ (λ i. lineDrawing k (a .ink) (from i) (to i)) (called .draw-line .ensures))
     (line-tells _ _ _ _) _ _ _ _ _ (c .tell-cells .ensures) (c .before .before .tell-box .ensures)
 
 pub pw-line-spec : {M : Type 1} → statement M
