@@ -3,6 +3,7 @@ pub mod Chains
 pub mod Places
 pub mod Paint
 pub mod Boxes
+pub mod Sides
 pub mod Smallest
 pub mod Count
 pub mod Empty

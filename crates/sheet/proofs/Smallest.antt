@@ -9,6 +9,7 @@ use Rattle.sheet.specs.declared.Cell.{Cell}
 use Rattle.sheet.specs.declared.Shape.{Shape}
 use Rattle.sheet.specs.declared.repaint.Rectangle.{Rectangle}
 use Rattle.sheet.proofs.Boxes.{within-both, join-nothing, nothing-join, box-low, box-holds, box-within, box-none, box-then}
+use Rattle.sheet.proofs.Sides.{left-side, top-side, right-side, bottom-side}
 
 module _ (k : Shape) (f : Cell → Bool) (w : k .width ≤ 4096) (h : k .height ≤ 4096) where
   least : (r : Rectangle) → HoldsAll k f r → (x y : ℕ) → Set k f x y → Within (boxOf k f) r
@@ -24,6 +25,7 @@ module _ (k : Shape) (f : Cell → Bool) (w : k .width ≤ 4096) (h : k .height 
         holds = box-holds k f;
         least = least;
         only = λ r g l x y m. within-both r (boxOf k f) (l (boxOf k f) (box-holds k f)) (least r g x y m);
+        touches = λ x y m. (left-side k f w h x y m, top-side k f w h x y m, right-side k f w h x y m, bottom-side k f w h x y m);
         together = box-then k f;
         unit = (join-nothing (boxOf k f) nothing (box-low k f), nothing-join (boxOf k f) (box-low k f));
       }

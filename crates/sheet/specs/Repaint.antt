@@ -50,6 +50,13 @@ pub record Set (k : Shape) (figure : Cell → Bool) (x y : ℕ) : Type 0 where
 abbrev pub HoldsAll : Shape → (Cell → Bool) → Rectangle → Type 0
 HoldsAll k figure r = (x y : ℕ) → Set k figure x y → Holds r x y
 
+-- a cell of the figure on the sheet that its rectangle ends with at a side
+pub record Reaches (k : Shape) (figure : Cell → Bool) (side : Rectangle → ℕ) : Type 0 where
+  pub x : ℕ
+  pub y : ℕ
+  pub set : Set k figure x y
+  pub ends : side (boxOf k figure) ≡ side (alone x y)
+
 -- What is shown of it, on every sheet within the limits.
 pub record Smallest (k : Shape) (figure : Cell → Bool) : Type 0 where
   -- none exactly where no cell of the figure is on the sheet
@@ -60,6 +67,9 @@ pub record Smallest (k : Shape) (figure : Cell → Bool) : Type 0 where
   pub least : (r : Rectangle) → HoldsAll k figure r → (x y : ℕ) → Set k figure x y → Within (boxOf k figure) r
   pub only : (r : Rectangle) → HoldsAll k figure r → ((q : Rectangle) → HoldsAll k figure q → Within r q)
       → (x y : ℕ) → Set k figure x y → r ≡ boxOf k figure
+  -- and it has one of them at each side
+  pub touches : (x y : ℕ) → Set k figure x y → Reaches k figure (λ (r : Rectangle). r .left) × Reaches k figure (λ (r : Rectangle). r .top)
+      × Reaches k figure (λ (r : Rectangle). r .right) × Reaches k figure (λ (r : Rectangle). r .bottom)
   -- two figures together have the join of their rectangles, of which that of no cell is the unit
   pub together : (other : Cell → Bool) → boxOf k (λ (c : Cell). figure c || other c) ≡ join (boxOf k figure) (boxOf k other)
   pub unit : (join (boxOf k figure) nothing ≡ boxOf k figure) × (join nothing (boxOf k figure) ≡ boxOf k figure)
