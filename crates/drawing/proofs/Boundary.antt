@@ -12,7 +12,7 @@ use lib.ListN.{length}
 use Rattle.laws.proofs.Tests.{or-l, or-r, or-e, same}
 use Rattle.sheet.specs.Sheet.{inLimits, cell, cellOf, paint, cellsOn}
 use Rattle.sheet.specs.Repaint.{nothing, join, boxOf}
-use Rattle.sheet.specs.Reply.{Answer, done, withBox, unless, settled}
+use Rattle.sheet.specs.Reply.{Answer, done, isDone, withBox, unless, settled}
 use Rattle.sheet.specs.Drawing.{only, paintAll, boxAll, ifSheet, Draws}
 use Rattle.sheet.specs.declared.Cell.{Cell}
 use Rattle.sheet.specs.declared.Shape.{Shape}
@@ -160,6 +160,9 @@ module _ (k : Shape) where
     unfolding drawFileAnswer fileAnswer
     told-by = ap (λ (a : Answer). withBox a nothing) (h .tells) ∙ ap (λ (c : Contents). ofFile (ifSheet k (length lent) (contentsAnswer c))) e
 
+    done-by : isDone a ≡ isDone (ifSheet k (length lent) (done []))
+    done-by = ap isDone told-by ∙ sheet-done k (length lent) (pos (length rs) ∷ []) []
+
     boxed-by : a .box ≡ settled (ifSheet k (length lent) (done [])) (boxRecords rs) nothing
     unfolding drawFileAnswer fileAnswer
     boxed-by =
@@ -188,7 +191,11 @@ module _ (k : Shape) where
         ∙ ap (λ (n : ℕ). ofFile (ifSheet k (length lent) (done (pos n ∷ [])))) l
         ∙ sym (told-by other lent qs f b t g)
 
-    -- and so is that, where that of their records is the same.
+    -- with any number of them both are done, or neither,
+    pub files-done : isDone a ≡ isDone b
+    files-done = done-by file lent rs e a s h ∙ sym (done-by other lent qs f b t g)
+
+    -- and the rectangles are equal, where those of their records are.
     pub files-boxed : boxRecords rs ≡ boxRecords qs → a .box ≡ b .box
     files-boxed p =
         boxed-by file lent rs e a s h

@@ -1,11 +1,12 @@
 -- The regulator's question is answered of what the controllers link: one agreed boundary, drawn from either end and in any order, is the same bytes.
 use Prim.Native.Nat.{ℕ}
 use mathlib.Core.Path.{_≡_, sym, subst, ap, _∙_}
+use mathlib.Core.Bool.{cond}
 use mathlib.Core.List.{List}
 use lib.ListN.{length}
 use lib.Ieee.{Float}
 use Rattle.sheet.specs.Repaint.{nothing}
-use Rattle.sheet.specs.Reply.{Answer, withBox, settled}
+use Rattle.sheet.specs.Reply.{Answer, isDone, withBox, settled}
 use Rattle.sheet.specs.Drawing.{Drawing}
 use Rattle.sheet.specs.Pitch.{withPitch, Alike, AnyPitch}
 use Rattle.sheet.specs.declared.Cell.{Cell}
@@ -22,15 +23,15 @@ use Rattle.record.specs.declared.types.Record.{Record}
 use Rattle.drawing.specs.Boundary.{SameBoundary, InTurn}
 use Rattle.drawing.specs.File.{fileDrawing}
 use Rattle.drawing.specs.Metres.{metresDrawing}
-use Rattle.drawing.proofs.Boundary.{line-drawing-either, metres-drawing-either, same-boundary, same-in-turn, boxRecords, files-left, files-told, files-boxed}
+use Rattle.drawing.proofs.Boundary.{line-drawing-either, metres-drawing-either, same-boundary, same-boundary-box, same-in-turn, same-in-turn-box, boxRecords, files-left, files-told, files-done, files-boxed}
 use Rattle.drawing.proofs.Pitch.{figure-any-pitch, metres-any-pitch, file-any-pitch}
-use Rattle.pistonwool.specs.Told.{numbered, counted, replied, boxNumbers, DrawsInto}
+use Rattle.pistonwool.specs.Told.{counted, replied, boxNumbers, DrawsInto}
 use Rattle.pistonwool.proofs.Unique.{counted-one, replied-one}
 
--- what two promises come to, where the answers are equal: equal numbers and values, and equal four numbers where the same were lent
-module _ (n m : ℕ) (q r : Rectangle) (before u v : List ℕ) where
-  told-boxes : n ≡ m → q ≡ r → u ≡ settled (numbered n) (boxNumbers q) before → v ≡ settled (numbered m) (boxNumbers r) before → u ≡ v
-  told-boxes e f g h = g ∙ (λ i. settled (numbered (e i)) (boxNumbers (f i)) before) ∙ sym h
+-- equal rectangles are equal four numbers, where both drawings are done or neither, and the same four were lent
+told-boxes : (a b : Answer) (q r : Rectangle) (before u v : List ℕ) → isDone a ≡ isDone b → q ≡ r
+    → u ≡ settled a (boxNumbers q) before → v ≡ settled b (boxNumbers r) before → u ≡ v
+told-boxes a b q r before u v e f g h = g ∙ (λ i. cond (e i) (boxNumbers (f i)) before) ∙ sym h
 
 module _ (k : Shape) (ink : ℕ) (lent : List ℕ) (n m c d : ℕ) (s t before u v : List ℕ) where
   -- equal numbers, equal cells where they are done, the same bytes, and the same rectangle
@@ -41,7 +42,7 @@ module _ (k : Shape) (ink : ℕ) (lent : List ℕ) (n m c d : ℕ) (s t before u
   agree a b e h g =
       let same = draws-same a lent b e _ _ s t (h .draws) (g .draws) in
       let one = counted-one n m c d (ap (λ (o : Answer). withBox o nothing) (same .0)) in
-      (one .0, one .1, same .1, told-boxes n m _ _ before u v (one .0) (ap (λ (o : Answer). o .box) (same .0)) (h .boxes) (g .boxes))
+      (one .0, one .1, same .1, told-boxes (counted n c) (counted m d) _ _ before u v (ap isDone (same .0)) (ap (λ (o : Answer). o .box) (same .0)) (h .boxes) (g .boxes))
 
   -- One line, as `pw_line` draws it from either end on sheets that were alike
   pub same-line : (a b : Cell) → DrawsInto (lineDrawing k ink a b) lent (counted n c) s before u
@@ -66,14 +67,21 @@ module _ (k : Shape) (file other lent : List ℕ) (rs qs : List Record) (e : rea
   pub same-file-in-turn : InTurn rs qs → s ≡ t
   same-file-in-turn b = files-left k file other lent rs qs e f _ _ s t (h .draws) (g .draws) (same-in-turn k rs qs lent b)
 
-  -- with as many records number and value are equal too,
+  -- with as many records number and value are equal too;
   pub same-reply : length rs ≡ length qs → (n ≡ m) × (v ≡ w)
   same-reply l = replied-one n m v w (files-told k file other lent rs qs e f _ _ s t (h .draws) (g .draws) l)
 
-  -- and then so is the rectangle.
-  pub same-repaint : length rs ≡ length qs → boxRecords k rs ≡ boxRecords k qs → x ≡ y
-  same-repaint l p =
-      told-boxes n m _ _ before x y (same-reply l .0) (files-boxed k file other lent rs qs e f _ _ s t (h .draws) (g .draws) p) (h .boxes) (g .boxes)
+  -- and with any number of them both are told the same rectangle.
+  repaint : boxRecords k rs ≡ boxRecords k qs → x ≡ y
+  repaint p =
+      told-boxes (replied n v) (replied m w) _ _ before x y (files-done k file other lent rs qs e f _ _ s t (h .draws) (g .draws))
+      (files-boxed k file other lent rs qs e f _ _ s t (h .draws) (g .draws) p) (h .boxes) (g .boxes)
+
+  pub same-repaint : (ink : ℕ) → SameBoundary ink rs qs → x ≡ y
+  same-repaint ink b = repaint (same-boundary-box k ink rs qs b)
+
+  pub same-repaint-in-turn : InTurn rs qs → x ≡ y
+  same-repaint-in-turn b = repaint (same-in-turn-box k rs qs b)
 
 -- Two controllers whose sheets differ in their pitch, but were alike cell for cell, agree cell for cell.
 module _ (k : Shape) (pitch : ℕ) (lent other : List ℕ) (alike : Alike k pitch lent other) where
@@ -134,5 +142,8 @@ module _ (k : Shape) (pitch : ℕ) (lent other : List ℕ) (alike : Alike k pitc
     pub same-reply-any-pitch : length rs ≡ length qs → (n ≡ m) × (v ≡ w)
     same-reply-any-pitch l = same-reply k file back lent rs qs e f n m v w s (one .bytes) before x y h (one .into) l
 
-    pub same-repaint-any-pitch : length rs ≡ length qs → boxRecords k rs ≡ boxRecords k qs → x ≡ y
-    same-repaint-any-pitch l p = same-repaint k file back lent rs qs e f n m v w s (one .bytes) before x y h (one .into) l p
+    pub same-repaint-any-pitch : (ink : ℕ) → SameBoundary ink rs qs → x ≡ y
+    same-repaint-any-pitch ink b = same-repaint k file back lent rs qs e f n m v w s (one .bytes) before x y h (one .into) ink b
+
+    pub same-repaint-in-turn-any-pitch : InTurn rs qs → x ≡ y
+    same-repaint-in-turn-any-pitch b = same-repaint-in-turn k file back lent rs qs e f n m v w s (one .bytes) before x y h (one .into) b
