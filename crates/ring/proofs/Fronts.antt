@@ -9,14 +9,14 @@ use Rattle.laws.proofs.Products.{lt-or-ge}
 use Rattle.ring.specs.Ring.{ellipseRule}
 use Rattle.ring.specs.Inner.{outside, Front, rowEnd}
 use Rattle.ring.proofs.Columns.{ellipse-within}
-use Rattle.ring.proofs.Outside.{in-or-out, outside-up, outside-down, outside-turned, all-above, all-beside, level-inside, Column, rule→, column-rule, row-rule}
+use Rattle.ring.proofs.Outside.{in-or-out, outside-up, outside-down, outside-turned, all-beside, level-inside, level-outside, Column, rule→, column-rule, row-rule}
 
 module _ {a b v l r x : ℕ} (F : Front a b v l r x) where
   -- a column is before the front exactly where it is not outside
   front-past : (n : ℕ) → l ≤ n → outside a b (2 * n) v ≡ true → x ≤ n
   front-past n p e = elim (lt-or-ge n x) [ inl h ↦ absurd (in-or-out e (F .before n p h)) | inr h ↦ h ]
 
-  front-on : (n : ℕ) → x ≤ n → n < r → outside a b (2 * n) v ≡ true
+  pub front-on : (n : ℕ) → x ≤ n → n < r → outside a b (2 * n) v ≡ true
   front-on n p q = outside-up a b (2 * x) v (2 * n) v (omega arith) (omega arith) (F .at (omega arith))
 
   front-before : (n : ℕ) → n < r → outside a b (2 * n) v ≡ false → n < x
@@ -77,9 +77,10 @@ front-halved {a} {b} {v} {l} {r} m low′ high′ true F G p q e f g =
 front-halved {a} {b} {v} {l} {r} m low′ high′ false F G p q e f g =
     (rw f (front-beyond a b v l m (omega (arith, F .low)) (sym e)), rw g G, omega arith, omega arith)
 
--- above the ellipse the front is at the first column
-pub front-above : (a b v l r : ℕ) → 1 ≤ a → 2 * b < v → l ≤ r → Front a b v l r l
-front-above a b v l r p q o = front-here a b v l r o (all-above a b (2 * l) v p q)
+-- at the middle's own height it is past all columns
+pub front-level : (a b l r : ℕ) → l ≤ r → r ≤ a + 1 → Front a b 0 l r r
+front-level a b l r o m =
+    record { low = o; high = omega arith; before = λ n p q. level-inside a b (2 * n) (omega arith); at = λ p. absurd (omega arith) }
 
 -- lower down it is further out, and higher up further in: it is sought from the one before
 pub front-risen : {a b v w l r x z : ℕ} → w ≤ v → Front a b v l r x → Front a b w x r z → Front a b w l r z
@@ -110,7 +111,7 @@ front-fallen {a} {b} {v} {w} {l} {r} {x} {z} h F G =
 
 -- the end of a row at a front: the column before it, or the front itself
 module _ (a b y x : ℕ) where
-  end-at : ((rowEnd a b y x ≡ x - 1) × (outside a b (2 * (x - 1) + 1) (2 * y) ≡ true))
+  pub end-at : ((rowEnd a b y x ≡ x - 1) × (outside a b (2 * (x - 1) + 1) (2 * y) ≡ true))
       ⊎ ((rowEnd a b y x ≡ x) × (outside a b (2 * (x - 1) + 1) (2 * y) ≡ false))
   unfolding rowEnd
   end-at = by (outside a b (2 * (x - 1) + 1) (2 * y)) refl
@@ -128,7 +129,7 @@ module _ (a b y x : ℕ) where
   pub end-most : rowEnd a b y x ≤ x
   end-most = elim end-at [ inl e ↦ omega (arith, e .0) | inr e ↦ omega (arith, e .0) ]
 
-  end-least : x - 1 ≤ rowEnd a b y x
+  pub end-least : x - 1 ≤ rowEnd a b y x
   end-least = elim end-at [ inl e ↦ omega (arith, e .0) | inr e ↦ omega (arith, e .0) ]
 
 -- what a row's cells are between: the first and the last, of the columns from l to before r
@@ -259,7 +260,7 @@ module _ (a b j l r x z : ℕ) (p : 1 ≤ a) (q : 1 ≤ b) (k : suc j ≤ b) (m 
       }
 
 -- the middle row, from the front beside it
-pub middle-bounds : (a b l r x : ℕ) → 1 ≤ a → 1 ≤ b → l ≤ a → Front a b 1 l r x → Bounds a b 0 l r x a
+middle-bounds : (a b l r x : ℕ) → 1 ≤ a → 1 ≤ b → l ≤ a → Front a b 1 l r x → Bounds a b 0 l r x a
 middle-bounds a b l r x p q m F =
     record {
       order = front-most p (omega arith) m F;
@@ -275,3 +276,43 @@ middle-bounds a b l r x p q m F =
           | inl h ↦ absurd (in-or-out (sym (outside-turned a b (2 * c + 1) 0) ∙ R .above) (level-inside a b (2 * c + 1) (omega arith)))
           | inr h ↦ all-beside a b (2 * c) 1 p (omega arith) (omega arith)
         ]
+
+-- that row as any other
+module _ (a b l r x z : ℕ) (p : 1 ≤ a) (q : 1 ≤ b) (m : l ≤ a) (n : r ≤ a + 1) (F : Front a b 1 l r x) (G : Front a b 0 l r z) where
+  level-front : z ≡ r
+  level-front =
+      elim (lt-or-ge z r) [
+        | inl h ↦ absurd (in-or-out (G .at h) (level-inside a b (2 * z) (omega arith)))
+        | inr h ↦ omega (arith, G .high)
+      ]
+
+  level-first : rowEnd a b 0 x ≡ x
+  level-first =
+      elim (end-at a b 0 x) [
+        | inl e ↦ absurd (in-or-out (e .1) (level-inside a b (2 * (x - 1) + 1) (omega (arith, front-most p (omega arith) m F))))
+        | inr e ↦ e .0
+      ]
+
+  level-last : (rowEnd a b 0 z ≤ a) × (r ≤ rowEnd a b 0 z + 1) × (x ≤ rowEnd a b 0 z)
+  level-last =
+      let s = front-most p (omega arith) m F in
+      elim (lt-or-ge a z) [
+        | inl h ↦ elim (end-at a b 0 z) [
+          | inl e ↦ (omega (arith, e .0, level-front), omega (arith, e .0, level-front), omega (arith, e .0))
+          | inr e ↦ absurd (in-or-out (level-outside a b (2 * (z - 1) + 1) q (omega arith)) (e .1))
+        ]
+        | inr h ↦ elim (end-at a b 0 z) [
+          | inl e ↦ absurd (in-or-out (e .1) (level-inside a b (2 * (z - 1) + 1) (omega arith)))
+          | inr e ↦ (omega (arith, e .0), omega (arith, e .0, level-front), omega (arith, e .0, level-front, F .high))
+        ]
+      ]
+
+  pub middle-row : Bounds a b 0 l r (rowEnd a b 0 x) (rowEnd a b 0 z)
+  middle-row =
+      let B = middle-bounds a b l r x p q m F in
+      record {
+        order = omega (arith, level-first, level-last .2);
+        within = level-last .0;
+        to = λ c s t u. (omega (arith, level-first, B .to c s t u .0), omega (arith, level-last .1));
+        from = λ c s t u v. B .from c s t (omega (arith, level-first)) (omega (arith, level-last .0));
+      }

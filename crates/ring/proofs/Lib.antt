@@ -16,5 +16,7 @@ mod Fronts
 mod Tested
 mod Lying
 mod Rowed
+mod Seen
 mod Breadth
+mod Half
 mod Answers

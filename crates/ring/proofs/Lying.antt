@@ -27,15 +27,36 @@ module _ (m width i : ℕ) (h : i < width) where
         | inr l ↦ let e : off m i ≤ m - 65536 = omega arith in omega arith
       ]
 
+-- each distance from the least to the greatest is that of a column
+each-is : (m width c : ℕ) → max (65536 - m) (m - (65535 + width)) ≤ c → c ≤ max (m - 65536) (65535 + width - m)
+    → (i : ℕ) × (i < width) × (off m i ≡ c)
+each-is m width c p q =
+    let s : 65536 ≤ m + c = omega arith in
+    let t : m ≤ c + 65535 + width = omega arith in
+    elim (lt-or-ge (65535 + width) (m + c)) [
+      | inl l ↦ let u : c + 65536 ≤ m = omega arith in left-is m width c t u
+      | inr l ↦ right-is m width c s l
+    ]
+  where
+    left-is : (m width c : ℕ) → m ≤ c + 65535 + width → c + 65536 ≤ m → (i : ℕ) × (i < width) × (off m i ≡ c)
+    left-is m width c t u = (m - c - 65536, omega arith, omega arith)
+
+    right-is : (m width c : ℕ) → 65536 ≤ m + c → m + c ≤ 65535 + width → (i : ℕ) × (i < width) × (off m i ≡ c)
+    right-is m width c s l = (m + c - 65536, omega arith, omega arith)
+
+below-min : (c r m n : ℕ) → c ≤ r → r ≡ min m n → c ≤ n
+below-min c r m n p e = omega arith
+
 module _ (k : Shape) (p : Spot) (a b : ℕ) (C : Centred p) (n : 1 ≤ k .width) (pa : Axis a) (pb : Axis b) where
   farthest : ℕ
   farthest = max (p .x - 65536) (65535 + k .width - p .x)
 
   lying : (l r : ℕ) (w : Bool) → ((i : ℕ) → i < k .width → l ≤ off (p .x) i) → r ≡ min a farthest
+      → ((c : ℕ) → l ≤ c → c ≤ r → (i : ℕ) × (i < k .width) × (off (p .x) i ≡ c))
       → (w ≡ true → (65536 + a ≤ p .x) × (p .x + a < 65536 + k .width))
       → Placing k p a b (record { x = p .x; y = p .y; a = a; b = b; least = l; past = r + 1; whole = w })
   unfolding farthest
-  lying l r w near e whole =
+  lying l r w near e each whole =
       record {
         at-x = refl;
         at-y = refl;
@@ -51,6 +72,7 @@ module _ (k : Shape) (p : Spot) (a b : ℕ) (C : Centred p) (n : 1 ≤ k .width)
             | inl m ↦ inr m
             | inr m ↦ inl (omega (arith, far-is (p .x) (k .width) i h))
           ];
+          each = λ c u v. each c u (omega arith);
           some = omega (arith, near 0 n, far-is (p .x) (k .width) 0 n);
           most = omega arith;
           whole = whole;
@@ -66,9 +88,12 @@ module _ (k : Shape) (p : Spot) (a b : ℕ) (C : Centred p) (n : 1 ≤ k .width)
       let q = halves (leb (65536 + a) (p .x)) (leb (p .x + a) (65535 + k .width)) e in
       let l = leb-true (65536 + a) (p .x) (q .0) in
       let m = leb-true (p .x + a) (65535 + k .width) (q .1) in
-      lying 0 a true (λ i h. omega arith) (omega arith) (λ t. (l, omega arith))
+      lying 0 a true (λ i h. omega arith) (omega arith)
+      (λ c _ v. (p .x + c - 65536, omega arith, omega arith)) (λ t. (l, omega arith))
 
   pub placing : (l r : ℕ) → l ≡ max (65536 - p .x) (p .x - (65535 + k .width)) → r ≡ min a (max (p .x - 65536) (65535 + k .width - p .x))
       → Placing k p a b (record { x = p .x; y = p .y; a = a; b = b; least = l; past = r + 1; whole = false })
   unfolding farthest
-  placing l r e f = lying l r false (λ i h. rw e (near-is (p .x) (k .width) i h)) f (λ t. absurd (true≢false (sym t)))
+  placing l r e f =
+      lying l r false (λ i h. rw e (near-is (p .x) (k .width) i h)) f
+      (λ c u v. each-is (p .x) (k .width) c (rw e at u) (below-min c r a farthest v f)) (λ t. absurd (true≢false (sym t)))

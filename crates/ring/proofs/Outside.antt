@@ -61,13 +61,7 @@ outside-turned a b u v =
     let f : sum b a v u ≡ sum a b u v = omega arith in
     ap₂ ltb e f
 
--- above the ellipse all is outside
-pub all-above : (a b u v : ℕ) → 1 ≤ a → 2 * b < v → outside a b u v ≡ true
-all-above a b u v p q =
-    let h : 2 * (a * b) + 1 ≤ a * v = omega (arith, mul-le-mul-left a q) in
-    →out a b u v (omega (arith, sq-le h))
-
--- and so is what is beside it at any height, and at the height 0 nothing before
+-- what is beside the ellipse at any height is outside, and at the height 0 nothing before
 pub all-beside : (a b u v : ℕ) → 1 ≤ a → 1 ≤ v → 2 * a ≤ u → outside a b u v ≡ true
 all-beside a b u v p q r =
     let h : 2 * (a * b) ≤ b * u = omega (arith, mul-le-mul-left b r) in
@@ -77,6 +71,11 @@ pub level-inside : (a b u : ℕ) → u ≤ 2 * a → outside a b u 0 ≡ false
 level-inside a b u r =
     let h : b * u ≤ 2 * (a * b) = omega (arith, mul-le-mul-left b r) in
     →in a b u 0 (omega (arith, sq-le h))
+
+pub level-outside : (a b u : ℕ) → 1 ≤ b → 2 * a < u → outside a b u 0 ≡ true
+level-outside a b u q r =
+    let h : 2 * (a * b) + 1 ≤ b * u = omega (arith, mul-le-mul-left b r) in
+    →out a b u 0 (omega (arith, sq-le h))
 
 -- the column rule: the upper side of the cell is outside, and the lower side is not
 pub record Column (a b x y : ℕ) : Type 0 where

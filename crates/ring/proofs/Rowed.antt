@@ -1,9 +1,9 @@
--- Painting a ring row by row, and the rectangle of its rows.
+-- Painting a ring row by row, and the rectangle of its rows together.
 use Prim.Native.Nat.{ℕ, zero, suc, _+_, _-_, _*_, _≤_, _<_, min}
 use mathlib.Core.Path.{_≡_, sym, subst, ap₂, _∙_}
 use mathlib.Core.Logic.{_⊎_, inl, inr, ⊎-elim}
 use mathlib.Core.List.{List}
-use mathlib.Core.Bool.{Bool, false, _&&_}
+use mathlib.Core.Bool.{Bool, false, _&&_, _||_}
 use native.Mathlib.Omega.{arith}
 use lib.Dec.{T, leb, ltb, leb→le, le→leb, ltb→lt, lt→ltb}
 use lib.IntN.{pos}
@@ -12,20 +12,20 @@ use Rattle.laws.proofs.Ints.{parts}
 use Rattle.laws.proofs.Products.{lt-or-ge}
 use Rattle.laws.proofs.Tests.{and-l, and-r, and-i, same, is-false}
 use Rattle.sheet.specs.Sheet.{paint, cellOf}
-use Rattle.sheet.specs.Repaint.{nothing, boxOf}
+use Rattle.sheet.specs.Repaint.{nothing, join, boxOf}
 use Rattle.sheet.specs.Inner.{unmoved, unmovedCell}
 use Rattle.sheet.specs.declared.Cell.{Cell}
 use Rattle.sheet.specs.declared.Shape.{Shape}
 use Rattle.sheet.specs.declared.Spot.{Spot}
 use Rattle.sheet.specs.declared.repaint.Rectangle.{Rectangle}
-use Rattle.sheet.proofs.Boxes.{box-as, box-none}
+use Rattle.sheet.proofs.Boxes.{box-as, box-none, box-then}
 use Rattle.sheet.proofs.Paint.{paint-as, paint-none}
 use Rattle.ring.specs.Ring.{around, ellipseRule}
-use Rattle.ring.specs.Inner.{Front, FrontOf, rowEnd, cells, off, band, inRing, inRows, Lays, Placed, Placing}
+use Rattle.ring.specs.Inner.{Front, FrontOf, rowEnd, cells, off, band, inRing, inRows, Placed, Placing}
 use Rattle.ring.specs.declared.Ring.{Ring}
 use Rattle.ring.proofs.Columns.{ellipse-within}
-use Rattle.ring.proofs.Fronts.{Bounds, row-bounds, middle-bounds, front-risen, front-fallen}
-use Rattle.ring.proofs.Tested.{lays-none, lays-then, band→, →band}
+use Rattle.ring.proofs.Fronts.{Bounds, row-bounds, middle-row, front-risen, front-fallen}
+use Rattle.ring.proofs.Tested.{is-either, cells-none, cells-then, band→, →band}
 
 -- the test of a ring's rows, both ways
 module _ (g : Ring) (l r i j : ℕ) where
@@ -39,20 +39,20 @@ module _ (g : Ring) (l r i j : ℕ) where
   unfolding inRows
   →rows p q t = and-i (leb l j && ltb j r) (inRing g i j) (and-i (leb l j) (ltb j r) (le→leb l j p) (lt→ltb j r q)) t
 
--- a row above or below the middle is bounded by its two fronts
-pub bounds-at : (a b y l r x z : ℕ) → 1 ≤ a → 1 ≤ b → 1 ≤ y → y ≤ b → l ≤ a → r ≤ a + 1
+-- a row is bounded by its two fronts
+pub bounds-at : (a b y l r x z : ℕ) → 1 ≤ a → 1 ≤ b → y ≤ b → l ≤ a → r ≤ a + 1
     → Front a b (2 * y + 1) l r x → Front a b (2 * y - 1) l r z → Bounds a b y l r (rowEnd a b y x) (rowEnd a b y z)
-bounds-at a b zero l r x z p q h k m n F G = absurd (omega arith)
-bounds-at a b (suc j) l r x z p q h k m n F G =
+bounds-at a b zero l r x z p q k m n F G = middle-row a b l r x z p q m n F G
+bounds-at a b (suc j) l r x z p q k m n F G =
     let e : 2 * suc j - 1 ≡ 2 * j + 1 = omega arith in
     row-bounds a b j l r x z p q k m n F (rw e at G)
 
 -- the rows of a ring from `from` on are inked as far as before `row`, where its front at the height v / 2 is x
-pub record Inking (k : Shape) (ink : ℕ) (g : Ring) (from to v : ℕ) (s t : List ℕ) (b c : Rectangle) (x row : ℕ) : Type 0 where
+pub record Inking (k : Shape) (ink : ℕ) (g : Ring) (from to v : ℕ) (s t : List ℕ) (x row : ℕ) : Type 0 where
   pub order : from ≤ row
   pub within : row ≤ to
   pub front : FrontOf g v x
-  pub lays : Lays k ink (g .whole) (inRows g from row) s t b c
+  pub painted : t ≡ paint k ink (cells (inRows g from row)) s
 
 -- what is sought from one front finds the next, and the two bound the row between them
 pub record Bounded (g : Ring) (row low high v x : ℕ) : Type 0 where
@@ -71,11 +71,11 @@ module _ (k : Shape) (g : Ring) (P : Placed k g) (row x z low high : ℕ) where
       let n : 2 * (g .y - 65536 - (row + 1)) + 1 ≡ 2 * y - 1 = omega arith in
       let H : FrontOf g (2 * y - 1) z = front-risen (omega arith) F G in
       record {
-        bounds = rw (m, d, e) (bounds-at (g .a) (g .b) y (g .least) (g .past) x z (P .axis-a .0) (P .axis-b .0) (omega arith) (omega arith) (omega (arith, P .some, P .most)) (P .most) F H);
+        bounds = rw (m, d, e) (bounds-at (g .a) (g .b) y (g .least) (g .past) x z (P .axis-a .0) (P .axis-b .0) (omega arith) (omega (arith, P .some, P .most)) (P .most) F H);
         next = rw n H;
       }
 
-  pub falls : g .y < row + 65536 → row + 65536 ≤ g .y + g .b
+  pub falls : g .y ≤ row + 65536 → row + 65536 ≤ g .y + g .b
       → FrontOf g (2 * (row + 65536 - g .y) - 1) x
       → Front (g .a) (g .b) (2 * (row + 65536 - g .y) + 1) (g .least) x z
       → low ≡ rowEnd (g .a) (g .b) (row + 65536 - g .y) z → high ≡ rowEnd (g .a) (g .b) (row + 65536 - g .y) x
@@ -86,29 +86,30 @@ module _ (k : Shape) (g : Ring) (P : Placed k g) (row x z low high : ℕ) where
       let n : 2 * (row + 1 + 65536 - g .y) - 1 ≡ 2 * y + 1 = omega arith in
       let H : FrontOf g (2 * y + 1) z = front-fallen (omega arith) F G in
       record {
-        bounds = rw (m, d, e) (bounds-at (g .a) (g .b) y (g .least) (g .past) z x (P .axis-a .0) (P .axis-b .0) (omega arith) (omega arith) (omega (arith, P .some, P .most)) (P .most) H F);
+        bounds = rw (m, d, e) (bounds-at (g .a) (g .b) y (g .least) (g .past) z x (P .axis-a .0) (P .axis-b .0) (omega arith) (omega (arith, P .some, P .most)) (P .most) H F);
         next = rw n H;
       }
 
--- the middle row is bounded by the front beside it and the axis
-pub middle-row : (k : Shape) (g : Ring) → Placed k g → (x : ℕ) → 65536 ≤ g .y → FrontOf g 1 x
-    → Bounds (g .a) (g .b) (off (g .y) (g .y - 65536)) (g .least) (g .past) x (g .a)
-middle-row k g P x h F =
-    let e : off (g .y) (g .y - 65536) ≡ 0 = omega arith in
-    rw e (middle-bounds (g .a) (g .b) (g .least) (g .past) x (P .axis-a .0) (P .axis-b .0) (omega (arith, P .some, P .most)) F)
-
 -- no row yet
-pub rows-none : (k : Shape) (ink : ℕ) (w : Bool) (g : Ring) (l : ℕ) (s : List ℕ) (b : Rectangle) → Lays k ink w (inRows g l l) s s b b
-rows-none k ink w g l s b = lays-none k ink w (inRows g l l) s b (λ i j x y t. let z = rows→ g l l i j t in omega arith)
+pub rows-none : (k : Shape) (ink : ℕ) (g : Ring) (l : ℕ) (s : List ℕ) → s ≡ paint k ink (cells (inRows g l l)) s
+rows-none k ink g l s = cells-none k ink (inRows g l l) s (λ i j a b t. let z = rows→ g l l i j t in omega arith)
+
+-- of no rows nothing is painted, and the rectangle is none
+pub no-rows : (k : Shape) (ink : ℕ) (g : Ring) (l r : ℕ) → r ≤ l → (s : List ℕ) (q : Rectangle) → q ≡ nothing
+    → (s ≡ paint k ink (cells (inRows g l r)) s) × (q ≡ boxOf k (cells (inRows g l r)))
+no-rows k ink g l r o s q e =
+    let none : (i j : ℕ) → i < k .width → j < k .height → inRows g l r i j ≡ false =
+    λ i j _ _. is-false (inRows g l r i j) (λ t. let z = rows→ g l r i j t in omega arith) in
+    (sym (paint-none k ink (cells (inRows g l r)) s none), e ∙ sym (box-none k (cells (inRows g l r)) none))
 
 -- one row more, and two parts
 module _ (k : Shape) (ink : ℕ) (g : Ring) where
-  pub row-more : Placed k g → (l row low high : ℕ) (s t u : List ℕ) (b c d : Rectangle) → l ≤ row
+  row-more : Placed k g → (l row low high : ℕ) (s t u : List ℕ) → l ≤ row
       → Bounds (g .a) (g .b) (off (g .y) row) (g .least) (g .past) low high
-      → Lays k ink (g .whole) (inRows g l row) s t b c → Lays k ink (g .whole) (band row (g .x) low high) t u c d
-      → Lays k ink (g .whole) (inRows g l (row + 1)) s u b d
-  row-more P l row low high s t u b c d o B =
-      lays-then k ink (g .whole) (inRows g l row) (band row (g .x) low high) (inRows g l (row + 1)) s t u b c d
+      → t ≡ paint k ink (cells (inRows g l row)) s → u ≡ paint k ink (cells (band row (g .x) low high)) t
+      → u ≡ paint k ink (cells (inRows g l (row + 1))) s
+  row-more P l row low high s t u o B =
+      cells-then k ink (inRows g l row) (band row (g .x) low high) (inRows g l (row + 1)) s t u
       (λ i j a b w. let z = rows→ g l row i j w in →rows g l (row + 1) i j (z .0) (omega arith) (z .2))
       (λ i j a b w. let z = band→ row (g .x) low high i j w in →rows g l (row + 1) i j (omega arith) (omega arith) (in-row i j a (z .0) (z .1) (z .2)))
       (λ i j a b w.
@@ -131,29 +132,40 @@ module _ (k : Shape) (ink : ℕ) (g : Ring) where
           let z = B .to (off (g .x) i) (P .near i a) h (subst (λ (n : ℕ). T (ellipseRule (g .a) (g .b) (off (g .x) i) (off (g .y) n))) e t) in
           →band row (g .x) low high i j e (z .0) (z .1)
 
-  pub inked-more : Placed k g → {from to v w : ℕ} {s t u : List ℕ} {b c d : Rectangle} {x z row low high : ℕ} → row < to
-      → Bounded g row low high w z → Inking k ink g from to v s t b c x row → Lays k ink (g .whole) (band row (g .x) low high) t u c d
-      → Inking k ink g from to w s u b d z (row + 1)
+  pub inked-more : Placed k g → {from to v w : ℕ} {s t u : List ℕ} {x z row low high : ℕ} → row < to → Bounded g row low high w z
+      → Inking k ink g from to v s t x row → u ≡ paint k ink (cells (band row (g .x) low high)) t → Inking k ink g from to w s u z (row + 1)
   inked-more P o N D e =
       record {
         order = omega (arith, D .order);
         within = omega arith;
         front = N .next;
-        lays = row-more P _ _ _ _ _ _ _ _ _ _ (D .order) (N .bounds) (D .lays) e;
+        painted = row-more P _ _ _ _ _ _ _ (D .order) (N .bounds) (D .painted) e;
       }
 
-  pub rows-then : (w : Bool) (l m r : ℕ) (s t u : List ℕ) (b c d : Rectangle) → l ≤ m → m ≤ r → Lays k ink w (inRows g l m) s t b c
-      → Lays k ink w (inRows g m r) t u c d → Lays k ink w (inRows g l r) s u b d
-  rows-then w l m r s t u b c d o p =
-      lays-then k ink w (inRows g l m) (inRows g m r) (inRows g l r) s t u b c d
-      (λ i j a b w. let z = rows→ g l m i j w in →rows g l r i j (z .0) (omega arith) (z .2))
-      (λ i j a b w. let z = rows→ g m r i j w in →rows g l r i j (omega arith) (z .1) (z .2))
-      (λ i j a b w.
-      let z = rows→ g l r i j w in
-      elim (lt-or-ge j m) [
-        | inl n ↦ inl (→rows g l m i j (z .0) n (z .2))
-        | inr n ↦ inr (→rows g m r i j n (z .1) (z .2))
-      ])
+  module _ (l m r : ℕ) (o : l ≤ m) (p : m ≤ r) where
+    to-all : (i j : ℕ) → i < k .width → j < k .height → T (inRows g l m i j) → T (inRows g l r i j)
+    to-all i j a b w = let z = rows→ g l m i j w in →rows g l r i j (z .0) (omega arith) (z .2)
+
+    from-all : (i j : ℕ) → i < k .width → j < k .height → T (inRows g m r i j) → T (inRows g l r i j)
+    from-all i j a b w = let z = rows→ g m r i j w in →rows g l r i j (omega arith) (z .1) (z .2)
+
+    one-part : (i j : ℕ) → i < k .width → j < k .height → T (inRows g l r i j) → T (inRows g l m i j) ⊎ T (inRows g m r i j)
+    one-part i j a b w =
+        let z = rows→ g l r i j w in
+        elim (lt-or-ge j m) [
+          | inl n ↦ inl (→rows g l m i j (z .0) n (z .2))
+          | inr n ↦ inr (→rows g m r i j n (z .1) (z .2))
+        ]
+
+    pub rows-then : (s t u : List ℕ) → t ≡ paint k ink (cells (inRows g l m)) s → u ≡ paint k ink (cells (inRows g m r)) t
+        → u ≡ paint k ink (cells (inRows g l r)) s
+    rows-then s t u = cells-then k ink (inRows g l m) (inRows g m r) (inRows g l r) s t u to-all from-all one-part
+
+    pub rows-join : boxOf k (cells (inRows g l r)) ≡ join (boxOf k (cells (inRows g l m))) (boxOf k (cells (inRows g m r)))
+    rows-join =
+        sym (box-as k (λ (c : Cell). cells (inRows g l m) c || cells (inRows g m r) c) (cells (inRows g l r))
+        (is-either k (inRows g l m) (inRows g m r) (inRows g l r) to-all from-all one-part))
+        ∙ box-then k (cells (inRows g l m)) (cells (inRows g m r))
 
 -- a ring on a sheet, and its rows
 module _ (k : Shape) (ink : ℕ) (p : Spot) (a b : ℕ) (g : Ring) (N : Placing k p a b g) (s t : List ℕ) (r : Rectangle) where

@@ -1,30 +1,27 @@
--- Painting the cells of which a test of column and row holds, and gathering the rectangle of them.
+-- Painting the cells of which a test of column and row holds.
 use Prim.Native.Nat.{ℕ, _+_, _-_, _*_, _≤_, _<_, min}
-use mathlib.Core.Path.{_≡_, refl, sym, subst, ap, _∙_}
+use mathlib.Core.Path.{_≡_, refl, sym, ap, _∙_}
 use mathlib.Core.Logic.{_⊎_, inl, inr, ⊎-elim}
 use mathlib.Core.List.{List}
-use mathlib.Core.Bool.{Bool, false, _&&_, _||_}
+use mathlib.Core.Bool.{Bool, _&&_, _||_}
 use native.Mathlib.Omega.{arith}
 use native.Mathlib.Nat.{mul-le-mul}
 use lib.ListN.{length, set, length-set}
 use lib.Dec.{T, leb, ltb, eqb, leb→le, le→leb, ltb→lt, lt→ltb, eqb→eq}
 use Rattle.laws.proofs.Products.{lt-or-ge}
-use Rattle.laws.proofs.Tests.{and-l, and-r, and-i, or-l, or-r, or-e, same, is-true, is-false, from-true, eqb-of}
+use Rattle.laws.proofs.Tests.{and-l, and-r, and-i, or-l, or-r, or-e, same, is-false, eqb-of}
 use Rattle.sheet.specs.Sheet.{paint, place, cellOf, isCell}
-use Rattle.sheet.specs.Repaint.{join, boxOf, Holds, Set}
 use Rattle.sheet.specs.Inner.{Sheet}
 use Rattle.sheet.specs.declared.Cell.{Cell}
 use Rattle.sheet.specs.declared.Shape.{Shape}
-use Rattle.sheet.specs.declared.repaint.Rectangle.{Rectangle}
-use Rattle.sheet.proofs.Boxes.{Low, join-nothing, join-assoc, join-low, box-as, box-holds, box-is, box-none, box-then}
 use Rattle.sheet.proofs.Cells.{on-sheet}
 use Rattle.sheet.proofs.Pitch.{cell-below}
 use Rattle.sheet.proofs.Limits.{still-sheet}
 use Rattle.sheet.proofs.Paint.{paint-none, paint-as, paint-then, paint-one, paint-length}
-use Rattle.ring.specs.Inner.{cells, off, run, part, band, strip, Lays}
+use Rattle.ring.specs.Inner.{cells, off, run, part, band}
 
 -- on the sheet, a test is either of two
-is-either : (k : Shape) (p q r : ℕ → ℕ → Bool)
+pub is-either : (k : Shape) (p q r : ℕ → ℕ → Bool)
     → ((i j : ℕ) → i < k .width → j < k .height → T (p i j) → T (r i j))
     → ((i j : ℕ) → i < k .width → j < k .height → T (q i j) → T (r i j))
     → ((i j : ℕ) → i < k .width → j < k .height → T (r i j) → T (p i j) ⊎ T (q i j))
@@ -35,6 +32,12 @@ is-either k p q r f g h i j a b =
     (λ w. ⊎-elim (or-l (p i j) (q i j)) (or-r (p i j) (q i j)) (h i j a b w))
 
 module _ (k : Shape) (ink : ℕ) where
+  -- on the sheet, one test is the other: they paint alike
+  cells-as : (p q : ℕ → ℕ → Bool) (s t : List ℕ)
+      → ((i j : ℕ) → i < k .width → j < k .height → T (p i j) → T (q i j)) → ((i j : ℕ) → i < k .width → j < k .height → T (q i j) → T (p i j))
+      → t ≡ paint k ink (cells p) s → t ≡ paint k ink (cells q) s
+  cells-as p q s t f g e = e ∙ paint-as k ink (cells p) (cells q) s (λ i j a b. same (p i j) (q i j) (f i j a b) (g i j a b))
+
   -- on the sheet it holds of no cell: nothing is painted
   pub cells-none : (p : ℕ → ℕ → Bool) (s : List ℕ) → ((i j : ℕ) → i < k .width → j < k .height → T (p i j) → ⊥) → s ≡ paint k ink (cells p) s
   cells-none p s f = sym (paint-none k ink (cells p) s (λ i j a b. is-false (p i j) (f i j a b)))
@@ -52,41 +55,6 @@ module _ (k : Shape) (ink : ℕ) where
   -- what is painted is a sheet still
   pub sheet-still : (f : Cell → Bool) (s t : List ℕ) → t ≡ paint k ink f s → Sheet k s → Sheet k t
   sheet-still f s t e z = still-sheet k s t (ap length e ∙ paint-length k ink f s) z
-
--- and with the rectangle
-module _ (k : Shape) (ink : ℕ) (w : Bool) where
-  pub lays-none : (p : ℕ → ℕ → Bool) (s : List ℕ) (b : Rectangle) → ((i j : ℕ) → i < k .width → j < k .height → T (p i j) → ⊥)
-      → Lays k ink w p s s b b
-  lays-none p s b f =
-      record {
-        painted = cells-none k ink p s f;
-        gathered = λ e l m.
-            sym
-            (ap (join b) (box-none k (cells p) (λ i j x y. is-false (p i j) (f i j x y)))
-            ∙ join-nothing b b (record { left-low = l; top-low = m }));
-      }
-
-  pub lays-then : (p q r : ℕ → ℕ → Bool) (s t u : List ℕ) (b c d : Rectangle)
-      → ((i j : ℕ) → i < k .width → j < k .height → T (p i j) → T (r i j))
-      → ((i j : ℕ) → i < k .width → j < k .height → T (q i j) → T (r i j))
-      → ((i j : ℕ) → i < k .width → j < k .height → T (r i j) → T (p i j) ⊎ T (q i j))
-      → Lays k ink w p s t b c → Lays k ink w q t u c d → Lays k ink w r s u b d
-  lays-then p q r s t u b c d f g h L M =
-      record {
-        painted = cells-then k ink p q r s t u f g h (L .painted) (M .painted);
-        gathered = λ e l m.
-            let first : c ≡ join b (boxOf k (cells p)) = L .gathered e l m in
-            let low = subst Low (sym first) (join-low b (boxOf k (cells p)) (record { left-low = l; top-low = m })) in
-            M .gathered e (low .left-low) (low .top-low)
-            ∙ ap (λ (n : Rectangle). join n (boxOf k (cells q))) first
-            ∙ join-assoc b (boxOf k (cells p)) (boxOf k (cells q))
-            ∙ ap (join b)
-            (sym (box-then k (cells p) (cells q)) ∙ box-as k (λ (c : Cell). cells p c || cells q c) (cells r) (is-either k p q r f g h));
-      }
-
-  -- what is gathered may be left out
-  pub lays-any : (p : ℕ → ℕ → Bool) (s t : List ℕ) (b c : Rectangle) → Lays k ink false p s t b c → Lays k ink w p s t b c
-  lays-any p s t b c L = record { painted = L .painted; gathered = λ e. L .gathered refl }
 
 -- the tests of one row, both ways
 module _ (row l r i j : ℕ) where
@@ -228,45 +196,16 @@ module _ (k : Shape) (ink row first last : ℕ) (s : List ℕ) (S : Sheet k s) (
       still-sheet k s ends
       (length-set (set s (row * k .pitch + first) ink) (row * k .pitch + last) ink ∙ length-set s (row * k .pitch + first) ink) S
 
--- the rectangle of a run
-module _ {k : Shape} {s : List ℕ} (S : Sheet k s) (row l r : ℕ) (h : row < k .height) (o : l < r) (w : r ≤ k .width) where
-  run-held : (i : ℕ) → l ≤ i → i < r → Holds (boxOf k (cells (run row l r))) i row
-  run-held i p q =
-      let m = →run row l r i row refl p q in
-      box-holds k (cells (run row l r)) i row (record { column = omega arith; row = h; marked = is-true _ m })
-
-  strip-holds : (i j : ℕ) → Set k (cells (run row l r)) i j → Holds (strip row l r) i j
-  strip-holds i j m = let z = run→ row l r i j (from-true _ (m .marked)) in (z .1, z .2, omega arith, omega arith)
-
-  run-box : boxOf k (cells (run row l r)) ≡ strip row l r
-  run-box =
-      let first = run-held l (omega arith) o in
-      let last = run-held (r - 1) (omega arith) (omega arith) in
-      box-is k (cells (run row l r)) (strip row l r) (record { left-low = omega (arith, S .wide); top-low = omega (arith, S .high) })
-      strip-holds (first .0, omega (arith, last .1), first .2, omega (arith, first .3))
-
 -- the columns of the moved plane that are on the sheet
-module _ (k : Shape) (ink row first last l r : ℕ) (s t : List ℕ) (b c : Rectangle)
-    (e : l ≡ first - 65536) (f : r ≡ min (last + 1 - 65536) (k .width)) where
-  part-is : (i j : ℕ) → i < k .width → j < k .height → run row l r i j ≡ part row first last i j
-  part-is i j x y =
-      same (run row l r i j) (part row first last i j)
-      (λ u. let z = run→ row l r i j u in →part row first last i j (z .0) (omega arith) (omega arith))
-      (λ u. let z = part→ row first last i j u in →run row l r i j (z .0) (omega arith) (omega arith))
+module _ (k : Shape) (ink row first last l r : ℕ) (s t : List ℕ) (e : l ≡ first - 65536) (f : r ≡ min (last + 1 - 65536) (k .width)) where
+  pub part-run : l < r → t ≡ paint k ink (cells (run row l (r - 1 + 1))) s → t ≡ paint k ink (cells (part row first last)) s
+  part-run o =
+      cells-as k ink (run row l (r - 1 + 1)) (part row first last) s t
+      (λ i j a b u. let z = run→ row l (r - 1 + 1) i j u in →part row first last i j (z .0) (omega arith) (omega arith))
+      (λ i j a b u. let z = part→ row first last i j u in →run row l (r - 1 + 1) i j (z .0) (omega arith) (omega arith))
 
-  pub part-run : Sheet k s → row < k .height → l < r → t ≡ paint k ink (cells (run row l (r - 1 + 1))) s → c ≡ join b (strip row l r)
-      → Lays k ink false (part row first last) s t b c
-  part-run S h o d g =
-      let n : r - 1 + 1 ≡ r = omega arith in
-      record {
-        painted = (rw n at d) ∙ paint-as k ink (cells (run row l r)) (cells (part row first last)) s part-is;
-        gathered = λ _ _ _.
-            g ∙ ap (join b)
-            (sym (run-box S row l r h o (omega arith)) ∙ box-as k (cells (run row l r)) (cells (part row first last)) part-is);
-      }
-
-  pub part-none : r ≤ l → Lays k ink false (part row first last) s s b b
-  part-none o = lays-none k ink false (part row first last) s b (λ i j x y u. let z = part→ row first last i j u in omega arith)
+  pub part-none : r ≤ l → s ≡ paint k ink (cells (part row first last)) s
+  part-none o = cells-none k ink (part row first last) s (λ i j a b u. let z = part→ row first last i j u in omega arith)
 
 -- what is low to high off a coordinate is on either side of it
 module _ (k : Shape) (ink row m low high : ℕ) (s t u : List ℕ) (o : low ≤ high) where
@@ -283,10 +222,10 @@ module _ (k : Shape) (ink row m low high : ℕ) (s t u : List ℕ) (o : low ≤ 
         | inr g ↦ inl (→run row (c - high) (c - low + 1) i j (z .0) (omega arith) (omega arith))
       ])
 
-  pub two-parts : (w : Bool) (b c d : Rectangle) → high ≤ m → Lays k ink w (part row (m - high) (m - low)) s t b c
-      → Lays k ink w (part row (m + low) (m + high)) t u c d → Lays k ink w (band row m low high) s u b d
-  two-parts w b c d h =
-      lays-then k ink w (part row (m - high) (m - low)) (part row (m + low) (m + high)) (band row m low high) s t u b c d
+  pub two-parts : high ≤ m → t ≡ paint k ink (cells (part row (m - high) (m - low))) s
+      → u ≡ paint k ink (cells (part row (m + low) (m + high))) t → u ≡ paint k ink (cells (band row m low high)) s
+  two-parts h =
+      cells-then k ink (part row (m - high) (m - low)) (part row (m + low) (m + high)) (band row m low high) s t u
       (λ i j a b w. let z = part→ row (m - high) (m - low) i j w in →band row m low high i j (z .0) (omega arith) (omega arith))
       (λ i j a b w. let z = part→ row (m + low) (m + high) i j w in →band row m low high i j (z .0) (omega arith) (omega arith))
       (λ i j a b w.

@@ -1,13 +1,10 @@
 -- What the inner functions promise each other, over the natural numbers that the code works in.
-use Prim.Native.Nat.{ℕ, _+_, _-_, _*_, _≤_, _<_}
+use Prim.Native.Nat.{ℕ, _+_, _-_, _*_, _≤_, _<_, min}
 use mathlib.Core.Path.{_≡_}
 use mathlib.Core.Logic.{_⊎_}
-use mathlib.Core.List.{List}
 use mathlib.Core.Bool.{Bool, true, false, cond, _&&_}
 use lib.Dec.{leb, ltb, eqb}
 use lib.IntN.{natAbs}
-use Rattle.sheet.specs.Sheet.{paint}
-use Rattle.sheet.specs.Repaint.{join, boxOf}
 use Rattle.sheet.specs.Inner.{Moved}
 use Rattle.sheet.specs.declared.Cell.{Cell}
 use Rattle.sheet.specs.declared.Shape.{Shape}
@@ -77,17 +74,47 @@ inRing g i j = ellipseRule (g .a) (g .b) (off (g .x) i) (off (g .y) j)
 unfoldable pub inRows : Ring → ℕ → ℕ → ℕ → ℕ → Bool
 inRows g l r i j = (leb l j && ltb j r) && inRing g i j
 
--- the rectangles of some columns of a row, and of rows with the columns that are at most h off a moved coordinate
-abbrev pub strip : ℕ → ℕ → ℕ → Rectangle
-strip row l r = record { left = l; top = row; right = r; bottom = row + 1 }
+-- a cell c columns and y rows from the middle: nearer to it than the ring, since neither of its outer sides is outside, or not; and
+-- further than the ring, since both its inner sides are outside, or not
+abbrev pub Nearer : ℕ → ℕ → ℕ → ℕ → Type 0
+Nearer a b c y = (outside a b (2 * c + 1) (2 * y) ≡ false) × (outside a b (2 * c) (2 * y + 1) ≡ false)
 
-abbrev pub about : ℕ → ℕ → ℕ → ℕ → Rectangle
-about m h l r = record { left = m - 65536 - h; top = l; right = m - 65536 + h + 1; bottom = r }
+abbrev pub NotNearer : ℕ → ℕ → ℕ → ℕ → Type 0
+NotNearer a b c y = (outside a b (2 * c + 1) (2 * y) ≡ true) ⊎ (outside a b (2 * c) (2 * y + 1) ≡ true)
 
--- cells set in an ink; and r is q with these in it, where q begins as a rectangle of a sheet may, but a whole ring, w, gathers none
-pub record Lays (k : Shape) (ink : ℕ) (w : Bool) (test : ℕ → ℕ → Bool) (s t : List ℕ) (q r : Rectangle) : Type 0 where
-  pub painted : t ≡ paint k ink (cells test) s
-  pub gathered : w ≡ false → q .left ≤ 4096 → q .top ≤ 4096 → r ≡ join q (boxOf k (cells test))
+abbrev pub Further : ℕ → ℕ → ℕ → ℕ → Type 0
+Further a b c y = (outside a b (2 * c - 1) (2 * y) ≡ true) × (outside a b (2 * c) (2 * y - 1) ≡ true)
+
+abbrev pub NotFurther : ℕ → ℕ → ℕ → ℕ → Type 0
+NotFurther a b c y = (outside a b (2 * c - 1) (2 * y) ≡ false) ⊎ (outside a b (2 * c) (2 * y - 1) ≡ false)
+
+-- of the rows from l to before r off the middle, from n on the last of a ring's columns on the sheet is not nearer than the ring; and from n
+-- on the first of them is further than the ring
+pub record NearRow (g : Ring) (l r n : ℕ) : Type 0 where
+  pub low : l ≤ n
+  pub high : n ≤ r
+  pub before : (y : ℕ) → l ≤ y → y < n → Nearer (g .a) (g .b) (g .past - 1) y
+  pub after : (y : ℕ) → n ≤ y → y < r → NotNearer (g .a) (g .b) (g .past - 1) y
+
+pub record FarRow (g : Ring) (l r n : ℕ) : Type 0 where
+  pub low : l ≤ n
+  pub high : n ≤ r
+  pub before : (y : ℕ) → l ≤ y → y < n → NotFurther (g .a) (g .b) (g .least) y
+  pub after : (y : ℕ) → n ≤ y → y < r → Further (g .a) (g .b) (g .least) y
+
+-- the rectangle of the rows from l to before r with the columns of a sheet of width w that are n to m off a moved coordinate x
+abbrev pub spread : ℕ → ℕ → ℕ → ℕ → ℕ → ℕ → Rectangle
+spread w x n m l r =
+    record {
+      left = cond (leb (65536 + n) x) (x - (65536 + m)) (x + n - 65536);
+      top = l;
+      right = cond (leb (x + n) (65535 + w)) (min (x + m) (65535 + w) - 65535) (x - (n + 65535));
+      bottom = r;
+    }
+
+-- a ring with axes within the limits and some of its columns on a sheet
+abbrev pub Columned : Ring → Type 0
+Columned g = Axis (g .a) × Axis (g .b) × (g .least < g .past) × (g .past ≤ g .a + 1)
 
 -- a ring as it lies on a sheet, with some of its columns on it
 pub record Placed (k : Shape) (g : Ring) : Type 0 where
@@ -98,6 +125,8 @@ pub record Placed (k : Shape) (g : Ring) : Type 0 where
   -- a column of the sheet is no nearer to the middle than the least, and nearer than past or beyond the axis
   pub near : (i : ℕ) → i < k .width → g .least ≤ off (g .x) i
   pub far : (i : ℕ) → i < k .width → (off (g .x) i < g .past) ⊎ (g .a < off (g .x) i)
+  -- and each that is neither is that of one
+  pub each : (c : ℕ) → g .least ≤ c → c < g .past → (i : ℕ) × (i < k .width) × (off (g .x) i ≡ c)
   pub some : g .least < g .past
   pub most : g .past ≤ g .a + 1
   -- where it is whole, all its columns are on the sheet

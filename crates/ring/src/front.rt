@@ -6,7 +6,7 @@ ghost use Rattle.ring.specs.Inner.{outside, rowEnd, Sized, Front};
 use crate::less;
 
 // Whether the point (u / 2, v / 2) from the centre is outside the ellipse.
-fn is_outside(a: usize, b: usize, u: usize, v: usize) -> bool
+pub(crate) fn is_outside(a: usize, b: usize, u: usize, v: usize) -> bool
     requires { ⌜ (a ≤ 16383) × (b ≤ 16383) × (u ≤ 32768) × (v ≤ 32767) ⌝ }
     ensures { λ r. ⌜ r ≡ outside a b u v ⌝ }
 {
@@ -17,7 +17,7 @@ fn is_outside(a: usize, b: usize, u: usize, v: usize) -> bool
 }
 
 // The one or the other.
-fn chosen(first: bool, m: usize, n: usize) -> usize
+pub(crate) fn chosen(first: bool, m: usize, n: usize) -> usize
     ensures { λ r. ⌜ r ≡ cond first m n ⌝ }
 {
     if first { m } else { n }
@@ -77,4 +77,15 @@ pub(crate) fn row_end(a: usize, b: usize, y: usize, x: usize) -> usize
 {
     let before = less(x, 1);
     chosen(is_outside(a, b, 2 * before + 1, 2 * y), before, x)
+}
+
+// The same after a loop over rows, by another product, so that the loop keeps none of its own for this in memory.
+pub(crate) fn end_after(a: usize, b: usize, y: usize, x: usize) -> usize
+    requires { ⌜ (a ≤ 16383) × (b ≤ 16383) × (x ≤ 16384) × (y ≤ 16383) ⌝ }
+    ensures { λ r. ⌜ r ≡ rowEnd a b y x ⌝ }
+{
+    if x == 0 {
+        return 0;
+    }
+    chosen(is_outside(a, b, 2 * x - 1, 2 * y), x - 1, x)
 }

@@ -1,14 +1,12 @@
 // Inking the cells of a row.
 ghost use mathlib.Core.Path.{_≡_};
-ghost use mathlib.Core.Bool.{false};
 ghost use Prim.Native.Nat.{_+_, _≤_, _<_};
 ghost use Rattle.sheet.specs.Sheet.{paint};
 ghost use Rattle.sheet.specs.Inner.{Sheet};
-ghost use Rattle.ring.specs.Inner.{Placed, cells, run, part, band, strip, Lays};
+ghost use Rattle.ring.specs.Inner.{Placed, cells, run, part, band};
 use crate::Ring;
 use crate::less;
 use crate::smaller;
-use sheet::Rectangle;
 use sheet::Shape;
 
 // Inks the columns of a row from one to before another.
@@ -39,39 +37,16 @@ fn ink_some(sheet: &mut [u8], shape: Shape, ink: u8, row: usize, first: usize, l
     }
 }
 
-// Inks those of a row of the moved plane that are on the sheet. Answers the rectangle with these in it.
-fn ink_part(
-    sheet: &mut [u8],
-    shape: Shape,
-    ink: u8,
-    row: usize,
-    first: usize,
-    last: usize,
-    rectangle: Rectangle,
-) -> Rectangle
+// Inks those of a row of the moved plane that are on the sheet.
+fn ink_part(sheet: &mut [u8], shape: Shape, ink: u8, row: usize, first: usize, last: usize)
     requires { ⌜ Sheet shape (now sheet) × (row < shape .height) × (last ≤ 131072) ⌝ }
-    ensures { λ r. ⌜ Lays shape ink false (part row first last) (now (sheet .entry)) (now (sheet .exit)) rectangle r ⌝ }
+    ensures { λ _. ⌜ now (sheet .exit) ≡ paint shape ink (cells (part row first last)) (now (sheet .entry)) ⌝ }
 {
     let width = shape.width;
     let from = less(first, 65536);
     let past = smaller(less(last + 1, 65536), width as usize);
     if from < past {
         ink_some(sheet, shape, ink, row, from, past - 1);
-        return rectangle.join(strip(row, from, past));
-    }
-    rectangle
-}
-
-// The rectangle of some columns of a row.
-fn strip(row: usize, from: usize, past: usize) -> Rectangle
-    requires { ⌜ (row < 4096) × (from ≤ 4096) × (past ≤ 4096) ⌝ }
-    ensures { λ r. ⌜ r ≡ strip row from past ⌝ }
-{
-    Rectangle {
-        left: from as u32,
-        top: row as u32,
-        right: past as u32,
-        bottom: row as u32 + 1,
     }
 }
 
@@ -102,7 +77,6 @@ fn ink_both(
 }
 
 // Inks the cells of a row that are low to high columns from the ring's middle: without a test, where the ring is no wider than the sheet.
-// Answers the rectangle with these in it, but leaves that of a whole ring to its end.
 pub(crate) fn ink_row(
     sheet: &mut [u8],
     shape: Shape,
@@ -111,16 +85,15 @@ pub(crate) fn ink_row(
     row: usize,
     low: usize,
     high: usize,
-    rectangle: Rectangle,
-) -> Rectangle
+)
     requires { ⌜ Sheet shape (now sheet) × Placed shape ring × (row < shape .height) × (low ≤ high) × (high ≤ ring .a) ⌝ }
-    ensures { λ r. ⌜ Lays shape ink (ring .whole) (band row (ring .x) low high) (now (sheet .entry)) (now (sheet .exit)) rectangle r ⌝ }
+    ensures { λ _. ⌜ now (sheet .exit) ≡ paint shape ink (cells (band row (ring .x) low high)) (now (sheet .entry)) ⌝ }
 {
     let x = ring.x;
     if ring.whole {
         ink_both(sheet, shape, ink, row, x - 65536, low, high);
-        return rectangle;
+        return;
     }
-    let left = ink_part(sheet, shape, ink, row, x - high, x - low, rectangle);
-    ink_part(sheet, shape, ink, row, x + low, x + high, left)
+    ink_part(sheet, shape, ink, row, x - high, x - low);
+    ink_part(sheet, shape, ink, row, x + low, x + high);
 }

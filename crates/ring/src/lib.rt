@@ -12,11 +12,13 @@ ghost use Rattle.ring.specs.Draw.{ellipseDrawing};
 ghost use Rattle.ring.specs.Inner.{Centred, Axis, Placing};
 
 mod front;
+mod halves;
 mod ink;
 mod rows;
 
-use rows::rows_about;
-use rows::rows_below;
+use halves::lower_half;
+use halves::upper_half;
+use rows::rows_round;
 use sheet::Cell;
 use sheet::Drawn;
 use sheet::Rectangle;
@@ -111,10 +113,12 @@ fn ellipse_on(
     if to <= from {
         return Rectangle::none();
     }
-    if y < 65536 {
-        return rows_below(sheet, shape, ink, ring, to);
+    if ring.whole & ((65536 <= y) & (y < 65536 + to)) {
+        return rows_round(sheet, shape, ink, ring, from, to);
     }
-    rows_about(sheet, shape, ink, ring, from, to)
+    let middle = smaller(less(y, 65536), to);
+    let above = upper_half(sheet, shape, ink, ring, from, middle);
+    above.join(lower_half(sheet, shape, ink, ring, middle, to))
 }
 
 // Inks the ring about the centre: its centre alone, where both axes are 0. Answers its rectangle.

@@ -1,7 +1,5 @@
 -- `ring::ink::ink_part` meets its contract.
 use Rattle.ring.proofs.Tested.{part-run, part-none}
-use Rattle.sheet.specs.Repaint.{join}
-use native.Mathlib.Omega.{arith}
 use denote.Ref.{now}
 use mathlib.Core.Path.{_≡_, ap, _∙_}
 use Prim.Native.Nat.{ℕ, _+_, _-_, min}
@@ -33,37 +31,22 @@ sub-ink-some c = search needs
 ink-some-requires : tie.Need-ink-some-requires
 ink-some-requires c κs = search needs
 
-strip-requires : tie.Need-strip-requires
-strip-requires c κs =
-    let tested = c .before .before .before .before in
-    let entry = tested .before .before .before .before .before in
-    let p = entry .pre in
-    let e = past-is (tested .before) in
-    (omega (arith, p .0 .high, p .1), omega (arith, tested .if1 .taken, p .0 .wide), omega (arith, p .0 .wide))
-
-join-requires : tie.Need-join-requires
-join-requires c κs = search needs
-
 same-length : tie.Need-same-length
 same-length c = search needs
 
 returns : tie.Need-returns
 returns c =
-    let called = c .before .before .before .before in
+    let called = c .before .before in
     let tested = called .before .before in
     let cut = tested .before in
-    let entry = cut .before .before .before .before in
-    let a = entry .args in
-    part-run (a .shape) (a .ink) (a .row) (a .first) (a .last) _ _ _ _ (a .rectangle) _ (cut .before .before .less .ensures) (past-is cut)
-    (entry .pre .0) (entry .pre .1) (tested .if1 .taken) (called .ink-some .ensures)
-    (c .join .ensures ∙ ap (join (a .rectangle)) (c .before .strip .ensures))
+    let a = cut .before .before .before .before .args in
+    part-run (a .shape) (a .ink) (a .row) (a .first) (a .last) _ _ _ _ (cut .before .before .less .ensures) (past-is cut) (tested .if1 .taken) (called .ink-some .ensures)
 
 returns-2 : tie.Need-returns-2
 returns-2 c =
     let cut = c .before in
     let a = cut .before .before .before .before .args in
-    part-none (a .shape) (a .ink) (a .row) (a .first) (a .last) _ _ _ (now (a .sheet)) (a .rectangle) (a .rectangle)
-    (cut .before .before .less .ensures) (past-is cut) (c .if1 .left)
+    part-none (a .shape) (a .ink) (a .row) (a .first) (a .last) _ _ _ (now (a .sheet)) (cut .before .before .less .ensures) (past-is cut) (c .if1 .left)
 
 pub ink-part-spec : {M : Type 1} → statement M
 ink-part-spec =
@@ -76,8 +59,6 @@ ink-part-spec =
     smaller-requires
     sub-ink-some
     ink-some-requires
-    strip-requires
-    join-requires
     same-length
     returns
     returns-2)

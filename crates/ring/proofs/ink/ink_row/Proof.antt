@@ -1,9 +1,7 @@
 -- `ring::ink::ink_row` meets its contract.
-use Rattle.ring.proofs.Tested.{two-parts, lays-any}
-use Rattle.ring.specs.Inner.{band}
+use Rattle.ring.proofs.Tested.{two-parts}
 use native.Mathlib.Omega.{arith}
-use mathlib.Core.Path.{_≡_, sym, _∙_}
-use mathlib.Core.Bool.{false, true≢false}
+use mathlib.Core.Path.{_≡_}
 use Prim.Native.Nat.{_+_, _-_, _≤_, _<_}
 use borrow.Author.Needs.{needs}
 use Rattle.ring.proofs.ink.ink_row.Statement.{statement}
@@ -34,10 +32,7 @@ returns c =
     let tested = called .before .before in
     let a = tested .before .before .args in
     let e : a .ring .x - 65536 + 65536 ≡ a .ring .x = omega (arith, whole-row tested) in
-    record {
-      painted = rw e at (called .ink-both .ensures);
-      gathered = λ f. absurd (true≢false (sym (tested .if1 .taken) ∙ f));
-    }
+    rw e at (called .ink-both .ensures)
 
 sub-ink-part : tie.Need-sub-ink-part
 sub-ink-part c = search needs
@@ -67,9 +62,8 @@ returns-2 c =
     let entry = first .before .before .before .before in
     let a = entry .args in
     let p = entry .pre in
-    lays-any (a .shape) (a .ink) (a .ring .whole) (band (a .row) (a .ring .x) (a .low) (a .high)) _ _ _ _
-    (two-parts (a .shape) (a .ink) (a .row) (a .ring .x) (a .low) (a .high) _ _ _ (p .3) false _ _ _
-    (omega (arith, p .4, p .1 .axis-a .1, p .1 .column .least)) (first .ink-part .ensures) (called .ink-part2 .ensures))
+    two-parts (a .shape) (a .ink) (a .row) (a .ring .x) (a .low) (a .high) _ _ _ (p .3) (omega (arith, p .4, p .1 .axis-a .1, p .1 .column .least))
+    (first .ink-part .ensures) (called .ink-part2 .ensures)
 
 pub ink-row-spec : {M : Type 1} → statement M
 ink-row-spec =

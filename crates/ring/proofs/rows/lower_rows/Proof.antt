@@ -1,4 +1,6 @@
 -- `ring::rows::lower_rows` meets its contract: before each turn the rows before `row` are inked, and the front above it is known.
+use Rattle.ring.specs.Inner.{cells, inRows}
+use Rattle.sheet.specs.Sheet.{paint}
 use Rattle.ring.proofs.Tested.{sheet-still}
 use Rattle.ring.proofs.Rowed.{Inking, Bounded, falls, rows-none, inked-more}
 use Rattle.sheet.proofs.Paint.{paint-length}
@@ -6,16 +8,16 @@ use lib.ListN.{length}
 use denote.Ref.{now}
 use native.Mathlib.Omega.{arith}
 use mathlib.Core.Path.{_≡_, ap, _∙_}
-use Prim.Native.Nat.{_+_, _-_, _*_}
+use Prim.Native.Nat.{ℕ, _+_, _-_, _*_}
 use Rattle.ring.proofs.rows.lower_rows.Statement.{statement}
 use Rattle.ring.proofs.rows.lower_rows.Tie as tie
 
 abbrev Inv-loop : tie.InvT-loop
-Inv-loop sheet₀ shape ink ring from to front a b least middle rectangle₀ inner₀ row₀ sheet rectangle inner row =
-    Inking shape ink ring from to (2 * (row + 65536 - middle) - 1) sheet₀ sheet rectangle₀ rectangle inner row
+Inv-loop sheet₀ shape ink ring from to front a b least middle inner₀ row₀ sheet inner row =
+    Inking shape ink ring from to (2 * (row + 65536 - middle) - 1) sheet₀ sheet inner row
 
 abbrev μ-loop : tie.MeasureT-loop
-μ-loop sheet₀ shape ink ring from to front a b least middle rectangle₀ inner₀ row₀ sheet rectangle inner row = to - row
+μ-loop sheet₀ shape ink ring from to front a b least middle inner₀ row₀ sheet inner row = to - row
 
 loop-holds : tie.Need-loop-holds Inv-loop μ-loop
 loop-holds c =
@@ -25,7 +27,7 @@ loop-holds c =
       order = omega arith;
       within = entry .pre .0 .2;
       front = entry .pre .1 .1;
-      lays = rows-none (a .shape) (a .ink) (a .ring .whole) (a .ring) (a .from) (now (a .sheet)) (a .above);
+      painted = rows-none (a .shape) (a .ink) (a .ring) (a .from) (now (a .sheet));
     }
 
 add-y : tie.Need-add-y Inv-loop μ-loop
@@ -102,7 +104,7 @@ ink-row-requires c κs =
     let at-loop = tested .before in
     let p = at-loop .before .before .pre .0 in
     let N = bounded c in
-    let S = sheet-still _ _ _ _ _ (at-loop .loop .inv .lays .painted) (p .0) in
+    let S = sheet-still _ _ _ _ _ (at-loop .loop .inv .painted) (p .0) in
     (S, p .1, omega (arith, tested .loop-test .taken, p .3), N .bounds .order, N .bounds .within)
 
 add-row : tie.Need-add-row Inv-loop μ-loop
@@ -125,14 +127,16 @@ loop-again c =
     (at-loop .loop .inv) (called .ink-row .ensures)
 
 same-length : tie.Need-same-length Inv-loop μ-loop
-same-length c = ap length (c .before .loop .inv .lays .painted) ∙ paint-length _ _ _ _
+same-length c = ap length (c .before .loop .inv .painted) ∙ paint-length _ _ _ _
 
 returns : tie.Need-returns Inv-loop μ-loop
 returns c =
     let l = c .before .loop in
     let a = c .before .before .before .args in
-    let e : l .row ≡ a .to = omega (arith, l .inv .within, c .loop-test .left) in
-    rw e at (l .inv .lays)
+    let e : l .row ≡ a .to = omega (arith, l .inv .within, c .loop-test .left) in (
+      l .inv .painted ∙ ap (λ (n : ℕ). paint (a .shape) (a .ink) (cells (inRows (a .ring) (a .from) n)) (now (a .sheet))) e,
+      rw e at (l .inv .front),
+    )
 
 pub lower-rows-spec : {M : Type 1} → statement M
 lower-rows-spec =
