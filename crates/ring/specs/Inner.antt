@@ -88,8 +88,8 @@ Further a b c y = (outside a b (2 * c - 1) (2 * y) ≡ true) × (outside a b (2 
 abbrev pub NotFurther : ℕ → ℕ → ℕ → ℕ → Type 0
 NotFurther a b c y = (outside a b (2 * c - 1) (2 * y) ≡ false) ⊎ (outside a b (2 * c) (2 * y - 1) ≡ false)
 
--- of the rows from l to before r off the middle, from n on the last of a ring's columns on the sheet is not nearer than the ring; and from n
--- on the first of them is further than the ring
+-- of the rows from l to before r off the middle: from n on, the last of a ring's columns on the sheet is not nearer than the ring; and
+-- from n on, the first of them is further than the ring
 pub record NearRow (g : Ring) (l r n : ℕ) : Type 0 where
   pub low : l ≤ n
   pub high : n ≤ r
@@ -125,7 +125,7 @@ pub record Placed (k : Shape) (g : Ring) : Type 0 where
   -- a column of the sheet is no nearer to the middle than the least, and nearer than past or beyond the axis
   pub near : (i : ℕ) → i < k .width → g .least ≤ off (g .x) i
   pub far : (i : ℕ) → i < k .width → (off (g .x) i < g .past) ⊎ (g .a < off (g .x) i)
-  -- and each that is neither is that of one
+  -- each distance from the least to before past is that of a column of the sheet
   pub each : (c : ℕ) → g .least ≤ c → c < g .past → (i : ℕ) × (i < k .width) × (off (g .x) i ≡ c)
   pub some : g .least < g .past
   pub most : g .past ≤ g .a + 1

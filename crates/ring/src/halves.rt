@@ -20,7 +20,7 @@ use crate::smaller;
 use sheet::Rectangle;
 use sheet::Shape;
 
-// Of the rows that are so far from the middle, the first in which the ring has come to its columns on the sheet.
+// Of rows, by how far they are from the middle: the first in which the ring has come to its columns on the sheet.
 fn nearest_row(ring: Ring, from: usize, to: usize) -> usize
     requires { ⌜ Columned ring × (from ≤ to) × (to ≤ ring .b + 1) ⌝ }
     ensures { λ r. ⌜ NearRow ring from to r ⌝ }
@@ -35,7 +35,7 @@ fn nearest_row(ring: Ring, from: usize, to: usize) -> usize
     larger(from, row_end(b, a, past - 1, front))
 }
 
-// The first in which it has left them.
+// The same: the first in which it has left them.
 fn past_furthest(ring: Ring, from: usize, to: usize) -> usize
     requires { ⌜ Columned ring × (from ≤ to) × (to ≤ ring .b + 1) ⌝ }
     ensures { λ r. ⌜ FarRow ring from to r ⌝ }
