@@ -12,6 +12,7 @@ use sheet::Spot;
 mod draw;
 mod listing;
 mod pen;
+mod range;
 
 pub use draw::draw_between;
 pub use draw::draw_line;

@@ -1,10 +1,10 @@
--- `line::draw::least_n` meets its contract.
+-- `line::range::least_n` meets its contract.
 use Prim.Native.Nat.{_*_, _-_}
 use native.Mathlib.Omega.{arith}
 use Rattle.line.proofs.Least.{least-none, least-some, dividend-fits}
 use borrow.Author.Needs.{needs}
-use Rattle.line.proofs.draw.least_n.Statement.{statement}
-use Rattle.line.proofs.draw.least_n.Tie as tie
+use Rattle.line.proofs.range.least_n.Statement.{statement}
+use Rattle.line.proofs.range.least_n.Tie as tie
 
 returns : tie.Need-returns
 returns c = search needs

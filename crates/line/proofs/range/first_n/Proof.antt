@@ -1,8 +1,8 @@
--- `line::draw::first_n` meets its contract.
+-- `line::range::first_n` meets its contract.
 use Rattle.line.proofs.Ranges.{enters-is}
 use borrow.Author.Needs.{needs}
-use Rattle.line.proofs.draw.first_n.Statement.{statement}
-use Rattle.line.proofs.draw.first_n.Tie as tie
+use Rattle.line.proofs.range.first_n.Statement.{statement}
+use Rattle.line.proofs.range.first_n.Tie as tie
 
 steps-to-requires : tie.Need-steps-to-requires
 steps-to-requires c κs = search needs

@@ -1,8 +1,8 @@
--- `line::draw::past_n` meets its contract.
+-- `line::range::past_n` meets its contract.
 use Rattle.line.proofs.Ranges.{leaves-is}
 use borrow.Author.Needs.{needs}
-use Rattle.line.proofs.draw.past_n.Statement.{statement}
-use Rattle.line.proofs.draw.past_n.Tie as tie
+use Rattle.line.proofs.range.past_n.Statement.{statement}
+use Rattle.line.proofs.range.past_n.Tie as tie
 
 steps-past-requires : tie.Need-steps-past-requires
 steps-past-requires c κs = search needs

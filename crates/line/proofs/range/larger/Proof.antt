@@ -1,9 +1,9 @@
--- `line::draw::larger` meets its contract.
+-- `line::range::larger` meets its contract.
 use mathlib.Core.Path.{refl}
 use mathlib.Core.Logic.{inl, inr}
 use native.Mathlib.Omega.{arith}
-use Rattle.line.proofs.draw.larger.Statement.{statement}
-use Rattle.line.proofs.draw.larger.Tie as tie
+use Rattle.line.proofs.range.larger.Statement.{statement}
+use Rattle.line.proofs.range.larger.Tie as tie
 
 returns : tie.Need-returns
 returns c = (omega arith, omega arith, inr refl)

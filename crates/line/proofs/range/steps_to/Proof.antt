@@ -1,15 +1,15 @@
--- `line::draw::steps_past` meets its contract.
+-- `line::range::steps_to` meets its contract.
 use mathlib.Core.Path.{_∙_}
 use mathlib.Core.Bool.{cond}
 use borrow.Author.Needs.{needs}
-use Rattle.line.proofs.draw.steps_past.Statement.{statement}
-use Rattle.line.proofs.draw.steps_past.Tie as tie
-
-add-less : tie.Need-add-less
-add-less c = search needs
+use Rattle.line.proofs.range.steps_to.Statement.{statement}
+use Rattle.line.proofs.range.steps_to.Tie as tie
 
 less-requires : tie.Need-less-requires
 less-requires c κs = search needs
+
+add-less : tie.Need-add-less
+add-less c = search needs
 
 less-requires-2 : tie.Need-less-requires-2
 less-requires-2 c κs = search needs
@@ -22,6 +22,5 @@ returns c =
     c .chosen .ensures
     ∙ (λ i. cond (c .before .before .before .args .up) (c .before .before .less .ensures i) (c .before .less2 .ensures i))
 
-pub steps-past-spec : {M : Type 1} → statement M
-steps-past-spec =
-    tie.close (tie.spec add-less less-requires less-requires-2 chosen-requires returns)
+pub steps-to-spec : {M : Type 1} → statement M
+steps-to-spec = tie.close (tie.spec less-requires add-less less-requires-2 chosen-requires returns)

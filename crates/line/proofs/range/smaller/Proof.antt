@@ -1,9 +1,9 @@
--- `line::draw::smaller` meets its contract.
+-- `line::range::smaller` meets its contract.
 use mathlib.Core.Path.{refl}
 use mathlib.Core.Logic.{inl, inr}
 use native.Mathlib.Omega.{arith}
-use Rattle.line.proofs.draw.smaller.Statement.{statement}
-use Rattle.line.proofs.draw.smaller.Tie as tie
+use Rattle.line.proofs.range.smaller.Statement.{statement}
+use Rattle.line.proofs.range.smaller.Tie as tie
 
 returns : tie.Need-returns
 returns c = (omega arith, omega arith, inl refl)
