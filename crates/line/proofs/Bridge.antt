@@ -1,5 +1,5 @@
 -- From the moved plane to the rule: the course of two lifted ends runs over the line's cells.
-use Prim.Native.Nat.{ℕ, _+_, _≤_}
+use Prim.Native.Nat.{ℕ, _+_, _≤_, min}
 use mathlib.Core.Path.{_≡_, refl, sym, subst, ap, _∙_}
 use mathlib.Core.Bool.{Bool, true, false, cond, _&&_, _||_}
 use native.Mathlib.Omega.{arith}
@@ -194,10 +194,28 @@ module _ (a b : Cell) (p q : Spot) (P : LiftedCell a p) (Q : LiftedCell b q) whe
   pub long-limit : long a b ≤ 32767
   long-limit = omega (arith, course-long, course-runs .limit)
 
--- the two spots in order
-pub in-order : (p q : Spot) (t : Bool) (lx ly hx hy : ℕ) → t ≡ lesserSpot p q
-    → lx ≡ cond t (p .x) (q .x) → ly ≡ cond t (p .y) (q .y) → hx ≡ cond t (q .x) (p .x) → hy ≡ cond t (q .y) (p .y)
-    → courseFrom (record { x = lx; y = ly }) (record { x = hx; y = hy }) ≡ courseOf p q
+-- the course from p to q by its parts
+parts-are : (p q : Spot) (x y far w h l s : ℕ) → x ≡ p .x → y ≡ p .y → far ≡ q .x → w ≡ gap (p .x) (q .x) → h ≡ gap (p .y) (q .y) → l ≡ longer w h → s ≡ shorter w h
+    → record { x = x; y = y; right = leb x far; steep = ltb w h; long = l; short = s } ≡ courseFrom p q
+parts-are p q x y far w h l s ex ey ef ew eh el es =
+    λ i.
+    record {
+      x = ex i;
+      y = ey i;
+      right = leb (ex i) (ef i);
+      steep = ltb (ew i) (eh i);
+      long = (el ∙ (λ j. longer (ew j) (eh j))) i;
+      short = (es ∙ (λ j. shorter (ew j) (eh j))) i;
+    }
+
+-- the course by its parts, as the code finds them
+pub course-by : (p q : Spot) (t : Bool) (x y far w h l s : ℕ) → t ≡ lesserSpot p q
+    → x ≡ cond t (p .x) (q .x) → far ≡ cond t (q .x) (p .x) → y ≡ min (p .y) (q .y) → w ≡ gap (p .x) (q .x) → h ≡ gap (p .y) (q .y) → l ≡ longer w h → s ≡ shorter w h
+    → record { x = x; y = y; right = leb x far; steep = ltb w h; long = l; short = s } ≡ courseOf p q
 unfolding courseOf
-in-order p q true lx ly hx hy e a b c d = rw (← e) (λ i. courseFrom (record { x = a i; y = b i }) (record { x = c i; y = d i }))
-in-order p q false lx ly hx hy e a b c d = rw (← e) (λ i. courseFrom (record { x = a i; y = b i }) (record { x = c i; y = d i }))
+course-by p q true x y far w h l s e ex ef ey ew eh el es =
+    let top : y ≡ p .y = omega (arith, lesser-y p q (sym e)) in
+    rw (← e) (parts-are p q x y far w h l s ex top ef ew eh el es)
+course-by p q false x y far w h l s e ex ef ey ew eh el es =
+    let top : y ≡ q .y = omega (arith, not-lesser-y p q (sym e)) in
+    rw (← e) (parts-are q p x y far w h l s ex top ef (ew ∙ gap-comm (p .x) (q .x)) (eh ∙ gap-comm (p .y) (q .y)) el es)

@@ -1,9 +1,10 @@
 -- The range of n whose cells are on the sheet.
-use Prim.Native.Nat.{ℕ, _+_, _≤_, _<_}
+use Prim.Native.Nat.{ℕ, _+_, _≤_, _<_, min, max}
 use mathlib.Core.Path.{_≡_, refl}
 use mathlib.Core.Bool.{Bool, true, false, cond}
-use mathlib.Core.Logic.{_⊎_, inl, inr, ⊎-elim}
+use mathlib.Core.Logic.{inl, inr, ⊎-elim}
 use native.Mathlib.Omega.{arith}
+use Rattle.laws.proofs.Products.{lt-or-ge}
 use Rattle.sheet.specs.declared.Shape.{Shape}
 use Rattle.line.specs.Inner.Course.{stepped, spotAt}
 use Rattle.line.specs.Inner.Span.{enters, leaves, stepsX, stepsY, FirstAt, Enters, Leaves, Spans}
@@ -32,43 +33,43 @@ module _ (k : Shape) (c : Course) (x y along across least r : ℕ) where
   Bounds steep = (along ≡ cond steep y x) × (across ≡ cond steep x y)
 
   enters-by : (steep : Bool) → c .steep ≡ steep → x ≡ enters (c .right) (c .x) (k .width) → y ≡ enters true (c .y) (k .height) → Bounds steep
-      → FirstAt across (c .long) (c .short) least → (along ≤ r) × (least ≤ r) × ((r ≡ along) ⊎ (r ≡ least)) → Enters k c r
+      → FirstAt across (c .long) (c .short) least → r ≡ max along least → Enters k c r
   enters-by true e ex ey b u v =
       record {
         x-in = λ n a l. let z = u .from n a (omega arith) in rw e (omega arith);
         y-in = λ n a l. rw e (omega arith);
-        out = λ n a l. rw e (⊎-elim (λ f. inr (omega arith)) (λ f. let z = u .until n a (omega arith) in inl (omega arith)) (v .2));
+        out = λ n a l. rw e (⊎-elim (λ f. inr (omega arith)) (λ f. let z = u .until n a (omega arith) in inl (omega arith)) (lt-or-ge n along));
       }
   enters-by false e ex ey b u v =
       record {
         x-in = λ n a l. rw e (omega arith);
         y-in = λ n a l. let z = u .from n a (omega arith) in rw e (omega arith);
-        out = λ n a l. rw e (⊎-elim (λ f. inl (omega arith)) (λ f. let z = u .until n a (omega arith) in inr (omega arith)) (v .2));
+        out = λ n a l. rw e (⊎-elim (λ f. inl (omega arith)) (λ f. let z = u .until n a (omega arith) in inr (omega arith)) (lt-or-ge n along));
       }
 
   leaves-by : (steep : Bool) → c .steep ≡ steep → x ≡ leaves (c .right) (c .x) (k .width) → y ≡ leaves true (c .y) (k .height) → Bounds steep
-      → FirstAt across (c .long) (c .short) least → (r ≤ along) × (r ≤ least) × ((r ≡ along) ⊎ (r ≡ least)) → Leaves k c r
+      → FirstAt across (c .long) (c .short) least → r ≡ min along least → Leaves k c r
   leaves-by true e ex ey b u v =
       record {
         low = omega (arith, u .low);
         x-in = λ n a l. let z = u .until n a (omega arith) in rw e (omega arith);
         y-in = λ n a l. rw e (omega arith);
-        out = λ n a l. rw e (⊎-elim (λ f. inr (omega arith)) (λ f. let z = u .from n a (omega arith) in inl (omega arith)) (v .2));
+        out = λ n a l. rw e (⊎-elim (λ f. let z = u .from n a (omega arith) in inl (omega arith)) (λ f. inr (omega arith)) (lt-or-ge n along));
       }
   leaves-by false e ex ey b u v =
       record {
         low = omega (arith, u .low);
         x-in = λ n a l. rw e (omega arith);
         y-in = λ n a l. let z = u .until n a (omega arith) in rw e (omega arith);
-        out = λ n a l. rw e (⊎-elim (λ f. inl (omega arith)) (λ f. let z = u .from n a (omega arith) in inr (omega arith)) (v .2));
+        out = λ n a l. rw e (⊎-elim (λ f. let z = u .from n a (omega arith) in inr (omega arith)) (λ f. inl (omega arith)) (lt-or-ge n along));
       }
 
   pub enters-is : x ≡ enters (c .right) (c .x) (k .width) → y ≡ enters true (c .y) (k .height) → along ≡ cond (c .steep) y x → across ≡ cond (c .steep) x y
-      → FirstAt across (c .long) (c .short) least → (along ≤ r) × (least ≤ r) × ((r ≡ along) ⊎ (r ≡ least)) → Enters k c r
+      → FirstAt across (c .long) (c .short) least → r ≡ max along least → Enters k c r
   enters-is ex ey a b u v = enters-by (c .steep) refl ex ey (a, b) u v
 
   pub leaves-is : x ≡ leaves (c .right) (c .x) (k .width) → y ≡ leaves true (c .y) (k .height) → along ≡ cond (c .steep) y x → across ≡ cond (c .steep) x y
-      → FirstAt across (c .long) (c .short) least → (r ≤ along) × (r ≤ least) × ((r ≡ along) ⊎ (r ≡ least)) → Leaves k c r
+      → FirstAt across (c .long) (c .short) least → r ≡ min along least → Leaves k c r
   leaves-is ex ey a b u v = leaves-by (c .steep) refl ex ey (a, b) u v
 
 -- both bounds make the range

@@ -69,14 +69,6 @@ pub spanning-turned : (p q : Spot) → spanning p q ≡ spanning q p
 unfolding spanning
 spanning-turned p q = rectangle-is _ _ (omega arith) (omega arith) (omega arith) (omega arith)
 
--- the smaller and the larger of two, as the code finds them
-module _ (a b r : ℕ) where
-  pub min-of : (r ≤ a) × (r ≤ b) × ((r ≡ a) ⊎ (r ≡ b)) → r ≡ min a b
-  min-of h = ⊎-elim (λ e. omega (arith, h .0, h .1)) (λ e. omega (arith, h .0, h .1)) (h .2)
-
-  pub max-of : (a ≤ r) × (b ≤ r) × ((r ≡ a) ⊎ (r ≡ b)) → r ≡ max a b
-  max-of h = ⊎-elim (λ e. omega (arith, h .0, h .1)) (λ e. omega (arith, h .0, h .1)) (h .2)
-
 -- the rectangle by its sides
 pub spanning-by : (p q : Spot) (l t r b : ℕ) → l ≡ min (p .x) (q .x) → t ≡ min (p .y) (q .y) → r ≡ max (p .x) (q .x) → b ≡ max (p .y) (q .y)
     → record { left = l - 65536; top = t - 65536; right = r - 65535; bottom = b - 65535 } ≡ spanning p q

@@ -1,6 +1,6 @@
 // Drawing a line: the range of its cells that are on the sheet is worked out once, and walked with no test for each cell.
 ghost use mathlib.Core.Path.{_≡_};
-ghost use mathlib.Core.Bool.{cond};
+ghost use mathlib.Core.Bool.{cond, _&&_};
 ghost use lib.ListN.{length};
 ghost use Prim.Native.Nat.{_+_, _-_, _/_, _%_, _≤_, _<_};
 ghost use Rattle.sheet.specs.Sheet.{onSheet, inLimits, paint};
@@ -15,10 +15,10 @@ ghost use Rattle.line.specs.Inner.Span.{On, Spans, byteOf, aloneBy, both
 use crate::Course;
 use crate::course_of;
 use crate::gradient_of;
+use crate::larger;
 use crate::range::first_n;
-use crate::range::larger;
 use crate::range::past_n;
-use crate::range::smaller;
+use crate::smaller;
 use crate::spot_of;
 use sheet::Cell;
 use sheet::Drawn;
@@ -49,16 +49,16 @@ fn part(t: u64) -> u32
     (t % 4294967296) as u32
 }
 
-// Whether a spot is on the sheet.
-fn is_on(shape: Shape, spot: Spot) -> bool
+// Whether two spots are on the sheet.
+fn are_on(shape: Shape, a: Spot, b: Spot) -> bool
     requires { ⌜ (shape .width ≤ 4096) × (shape .height ≤ 4096) ⌝ }
-    ensures { λ r. ⌜ r ≡ onSheet shape (unmovedCell spot) ⌝ }
+    ensures { λ r. ⌜ r ≡ (onSheet shape (unmovedCell a) && onSheet shape (unmovedCell b)) ⌝ }
 {
-    let x = spot.x;
-    let y = spot.y;
     let right = 65536 + shape.width;
     let bottom = 65536 + shape.height;
-    ((65536 <= x) & (x < right)) & ((65536 <= y) & (y < bottom))
+    let across = (65536 <= smaller(a.x, b.x)) & (larger(a.x, b.x) < right);
+    let down = (65536 <= smaller(a.y, b.y)) & (larger(a.y, b.y) < bottom);
+    across & down
 }
 
 // The byte of the nth cell, which is on the sheet.
@@ -289,7 +289,7 @@ pub fn draw_between(sheet: &mut [u8], shape: Shape, ink: u8, from: Spot, to: Spo
     if !tested.is_done() {
         return sheet::undrawn(tested);
     }
-    if is_on(shape, from) & is_on(shape, to) {
+    if are_on(shape, from, to) {
         let course = course_of(from, to);
         whole_line(sheet, shape, ink, course);
         return Drawn {
@@ -313,7 +313,7 @@ pub fn draw_short(sheet: &mut [u8], shape: Shape, ink: u8, from: Spot, to: Spot)
     if !tested.is_done() {
         return false;
     }
-    if !(is_on(shape, from) & is_on(shape, to)) {
+    if !are_on(shape, from, to) {
         return false;
     }
     let course = course_of(from, to);

@@ -1,9 +1,9 @@
 // Lines: the drawing, the listing and the pen, all by one rule.
 ghost use mathlib.Core.Path.{_≡_};
 ghost use mathlib.Core.Bool.{cond, _&&_};
-ghost use Prim.Native.Nat.{_≤_};
+ghost use Prim.Native.Nat.{_≤_, min, max};
 ghost use Rattle.sheet.specs.Sheet.{inLimits};
-ghost use Rattle.line.specs.Inner.Course.{gap, stepped, spotAt, lesserSpot, courseFrom, courseOf, Runs};
+ghost use Rattle.line.specs.Inner.Course.{gap, stepped, spotAt, lesserSpot, courseOf, Runs};
 ghost use Rattle.line.specs.Rule.{rise};
 ghost use Rattle.line.specs.Inner.Fixed.{gradient};
 use sheet::Cell;
@@ -41,10 +41,23 @@ fn in_limits(from: Cell, to: Cell) -> bool
     sheet::in_limits(from) & sheet::in_limits(to)
 }
 
+// The one or the other; the smaller, the larger.
 fn chosen(first: bool, a: u32, b: u32) -> u32
     ensures { λ r. ⌜ r ≡ cond first a b ⌝ }
 {
     if first { a } else { b }
+}
+
+fn smaller(a: u32, b: u32) -> u32
+    ensures { λ r. ⌜ r ≡ min a b ⌝ }
+{
+    if a < b { a } else { b }
+}
+
+fn larger(a: u32, b: u32) -> u32
+    ensures { λ r. ⌜ r ≡ max a b ⌝ }
+{
+    if a < b { b } else { a }
 }
 
 // k steps from m.
@@ -58,7 +71,7 @@ fn stepped_by(up: bool, m: u32, k: u32) -> u32
 fn gap_of(a: u32, b: u32) -> u32
     ensures { λ r. ⌜ r ≡ gap a b ⌝ }
 {
-    if a <= b { b - a } else { a - b }
+    larger(a, b) - smaller(a, b)
 }
 
 fn is_lesser(a: Spot, b: Spot) -> bool
@@ -67,37 +80,23 @@ fn is_lesser(a: Spot, b: Spot) -> bool
     (a.y < b.y) | ((a.y == b.y) & (a.x <= b.x))
 }
 
-// The course of a line whose lesser end is a.
-fn course_from(a: Spot, b: Spot) -> Course
-    ensures { λ r. ⌜ r ≡ courseFrom a b ⌝ }
-{
-    let wide = gap_of(a.x, b.x);
-    let tall = gap_of(a.y, b.y);
-    let steep = wide < tall;
-    Course {
-        x: a.x,
-        y: a.y,
-        right: a.x <= b.x,
-        steep,
-        long: chosen(steep, tall, wide),
-        short: chosen(steep, wide, tall),
-    }
-}
-
 // The course of the line with these ends.
 fn course_of(a: Spot, b: Spot) -> Course
     ensures { λ r. ⌜ r ≡ courseOf a b ⌝ }
 {
     let first = is_lesser(a, b);
-    let low = Spot {
-        x: chosen(first, a.x, b.x),
-        y: chosen(first, a.y, b.y),
-    };
-    let high = Spot {
-        x: chosen(first, b.x, a.x),
-        y: chosen(first, b.y, a.y),
-    };
-    course_from(low, high)
+    let x = chosen(first, a.x, b.x);
+    let wide = gap_of(a.x, b.x);
+    let tall = gap_of(a.y, b.y);
+    let steep = wide < tall;
+    Course {
+        x,
+        y: smaller(a.y, b.y),
+        right: x <= chosen(first, b.x, a.x),
+        steep,
+        long: chosen(steep, tall, wide),
+        short: chosen(steep, wide, tall),
+    }
 }
 
 // The nth spot of a course, q steps along the shorter extent.

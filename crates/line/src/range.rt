@@ -1,26 +1,15 @@
 // The range of a line's cells that are on the sheet: the first of them, and the first past them.
 ghost use mathlib.Core.Path.{_≡_};
-ghost use mathlib.Core.Logic.{_⊎_};
 ghost use Prim.Native.Nat.{_-_, _≤_};
 ghost use Rattle.line.specs.Inner.Course.{Runs};
 ghost use Rattle.line.specs.Inner.Span.{enters, leaves, FirstAt, Enters, Leaves};
 use crate::Course;
 use crate::chosen;
+use crate::larger;
+use crate::smaller;
 use sheet::Shape;
 
-// The larger, the smaller; a less b, or 0 where that is below 0.
-pub(crate) fn larger(a: u32, b: u32) -> u32
-    ensures { λ r. ⌜ (a ≤ r) × (b ≤ r) × ((r ≡ a) ⊎ (r ≡ b)) ⌝ }
-{
-    if a < b { b } else { a }
-}
-
-pub(crate) fn smaller(a: u32, b: u32) -> u32
-    ensures { λ r. ⌜ (r ≤ a) × (r ≤ b) × ((r ≡ a) ⊎ (r ≡ b)) ⌝ }
-{
-    if a < b { a } else { b }
-}
-
+// a less b, or 0 where that is below 0.
 fn less(a: u32, b: u32) -> u32
     ensures { λ r. ⌜ r ≡ a - b ⌝ }
 {

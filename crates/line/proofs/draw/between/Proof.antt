@@ -1,6 +1,6 @@
 -- `line::draw::between` meets its contract.
 use native.Mathlib.Omega.{arith}
-use Rattle.line.proofs.Spanned.{min-of, max-of, spanning-by}
+use Rattle.line.proofs.Spanned.{spanning-by}
 use borrow.Author.Needs.{needs}
 use Rattle.line.proofs.draw.between.Statement.{statement}
 use Rattle.line.proofs.draw.between.Tie as tie
@@ -9,13 +9,13 @@ smaller-requires : tie.Need-smaller-requires
 smaller-requires c κs = search needs
 
 sub-t4 : tie.Need-sub-t4
-sub-t4 c = omega (arith, min-of _ _ _ (c .smaller .ensures), c .before .pre .0)
+sub-t4 c = omega (arith, c .smaller .ensures, c .before .pre .0)
 
 smaller-requires-2 : tie.Need-smaller-requires-2
 smaller-requires-2 c κs = search needs
 
 sub-t6 : tie.Need-sub-t6
-sub-t6 c = omega (arith, min-of _ _ _ (c .smaller2 .ensures), c .before .before .pre .0)
+sub-t6 c = omega (arith, c .smaller2 .ensures, c .before .before .pre .0)
 
 larger-requires : tie.Need-larger-requires
 larger-requires c κs = search needs
@@ -32,8 +32,8 @@ sub-t10 c = search needs
 returns : tie.Need-returns
 returns c =
     let a = c .before .before .before .before .args in
-    spanning-by (a .a) (a .b) _ _ _ _ (min-of _ _ _ (c .before .before .before .smaller .ensures)) (min-of _ _ _ (c .before .before .smaller2 .ensures))
-    (max-of _ _ _ (c .before .larger .ensures)) (max-of _ _ _ (c .larger2 .ensures))
+    spanning-by (a .a) (a .b) _ _ _ _ (c .before .before .before .smaller .ensures) (c .before .before .smaller2 .ensures)
+    (c .before .larger .ensures) (c .larger2 .ensures)
 
 pub between-spec : {M : Type 1} → statement M
 between-spec =

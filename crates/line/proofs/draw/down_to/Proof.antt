@@ -1,6 +1,6 @@
 -- `line::draw::down_to` meets its contract.
 use native.Mathlib.Omega.{arith}
-use Rattle.line.proofs.Spanned.{min-of, max-of, spanning-by}
+use Rattle.line.proofs.Spanned.{spanning-by}
 use borrow.Author.Needs.{needs}
 use Rattle.line.proofs.draw.down_to.Statement.{statement}
 use Rattle.line.proofs.draw.down_to.Tie as tie
@@ -9,7 +9,7 @@ smaller-requires : tie.Need-smaller-requires
 smaller-requires c κs = search needs
 
 sub-t4 : tie.Need-sub-t4
-sub-t4 c = omega (arith, min-of _ _ _ (c .smaller .ensures), c .before .pre .0)
+sub-t4 c = omega (arith, c .smaller .ensures, c .before .pre .0)
 
 sub-t5 : tie.Need-sub-t5
 sub-t5 c = search needs
@@ -27,8 +27,8 @@ returns : tie.Need-returns
 returns c =
     let start = c .before .before .before .before in
     let a = start .args in
-    spanning-by (a .first) (a .last) _ _ _ _ (min-of _ _ _ (c .before .before .before .smaller .ensures)) (omega (arith, start .pre .0))
-    (max-of _ _ _ (c .before .larger .ensures)) (omega (arith, start .pre .0))
+    spanning-by (a .first) (a .last) _ _ _ _ (c .before .before .before .smaller .ensures) (omega (arith, start .pre .0))
+    (c .before .larger .ensures) (omega (arith, start .pre .0))
 
 pub down-to-spec : {M : Type 1} → statement M
 down-to-spec =

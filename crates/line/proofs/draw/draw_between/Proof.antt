@@ -32,17 +32,13 @@ lent : (c : tie.Else1) → let a = c .before .before .before .before .args in Sh
 lent c = let a = c .before .before .before .before .args in fits-sheet (a .shape) (now (a .sheet)) (fitted c)
 
 -- both ends are on the sheet
-ends-on : (c : tie.Then2) → let a = c .before .before .before .before .before .before .before .args in On (a .shape) (a .from) × On (a .shape) (a .to)
-ends-on c =
-    let u = c .before .before .is-on in
-    let v = c .before .is-on2 in
-    let h = halves (u .result) (v .result) (c .if2 .taken) in
-    (on-of _ _ (sym (u .ensures) ∙ h .0), on-of _ _ (sym (v .ensures) ∙ h .1))
+ends-on : (c : tie.Then2) → let a = c .before .before .before .before .before .before .args in On (a .shape) (a .from) × On (a .shape) (a .to)
+ends-on c = let h = halves _ _ (sym (c .before .are-on .ensures) ∙ c .if2 .taken) in (on-of _ _ (h .0), on-of _ _ (h .1))
 
-within : (c : tie.Then2) → let a = c .before .before .before .before .before .before .before .args in
+within : (c : tie.Then2) → let a = c .before .before .before .before .before .before .args in
     (inLimits (unmovedCell (a .from)) ≡ true) × (inLimits (unmovedCell (a .to)) ≡ true)
 within c =
-    let sized = c .before .before .before in
+    let sized = c .before .before in
     let a = sized .before .before .before .before .args in
     let o = ends-on c in
     let k = lent sized in
@@ -50,27 +46,27 @@ within c =
 
 runs-on : (c : tie.After-course-of) → Runs (c .course-of .result)
 runs-on c =
-    let a = c .before .before .before .before .before .before .before .before .args in
+    let a = c .before .before .before .before .before .before .before .args in
     let w = within (c .before) in
     line-runs (a .shape) _ _ _ _ _ (spot-lifted (a .from) (w .0)) (spot-lifted (a .to) (w .1)) (c .course-of .ensures)
 
-spanned : (c : tie.After-course-of) → let a = c .before .before .before .before .before .before .before .before .args in
+spanned : (c : tie.After-course-of) → let a = c .before .before .before .before .before .before .before .args in
     let course = c .course-of .result in Spans (a .shape) course 0 (course .long + 1)
 spanned c =
-    let a = c .before .before .before .before .before .before .before .before .args in
+    let a = c .before .before .before .before .before .before .before .args in
     let o = ends-on (c .before) in
     course-whole (a .shape) _ (a .from) (a .to) (c .course-of .ensures) (runs-on c) (o .0) (o .1)
 
 -- or within the limits
-moved : (c : tie.After-is-moved2) → let a = c .before .before .before .before .before .before .before .before .before .args in
+moved : (c : tie.After-is-moved2) → let a = c .before .before .before .before .before .before .before .before .args in
     (c .before .is-moved .result && c .is-moved2 .result) ≡ (inLimits (unmovedCell (a .from)) && inLimits (unmovedCell (a .to)))
 moved c = λ t. c .before .is-moved .ensures t && c .is-moved2 .ensures t
 
-inside : (c : tie.Else3) → let a = c .before .before .before .before .before .before .before .before .before .before .args in
+inside : (c : tie.Else3) → let a = c .before .before .before .before .before .before .before .before .before .args in
     (inLimits (unmovedCell (a .from)) && inLimits (unmovedCell (a .to))) ≡ true
 inside c = yes _ _ (moved (c .before)) (c .if3 .left)
 
-lifted : (c : tie.Else3) → let a = c .before .before .before .before .before .before .before .before .before .before .args in
+lifted : (c : tie.Else3) → let a = c .before .before .before .before .before .before .before .before .before .args in
     LiftedCell (unmovedCell (a .from)) (a .from) × LiftedCell (unmovedCell (a .to)) (a .to)
 lifted c =
     let h = halves _ _ (inside c) in
@@ -92,17 +88,14 @@ returns c =
     let a = asked .before .before .before .args in
     sheet-refused (lineDrawing (a .shape) (a .ink) (unmovedCell (a .from)) (unmovedCell (a .to))) _ _ _ _ _ _ refl (asked .before .check .ensures) (asked .is-done .ensures) (c .before .if1 .taken) (c .undrawn .ensures)
 
-is-on-requires : tie.Need-is-on-requires
-is-on-requires c κs = let k = lent c in (k .wide, k .high)
-
-is-on-requires-2 : tie.Need-is-on-requires-2
-is-on-requires-2 c κs = let k = lent (c .before) in (k .wide, k .high)
+are-on-requires : tie.Need-are-on-requires
+are-on-requires c κs = let k = lent c in (k .wide, k .high)
 
 course-of-requires : tie.Need-course-of-requires
 course-of-requires c κs = search needs
 
 whole-line-requires : tie.Need-whole-line-requires
-whole-line-requires c κs = let charted = c .before in (lent (charted .before .before .before .before), runs-on charted, spanned charted)
+whole-line-requires c κs = let charted = c .before in (lent (charted .before .before .before), runs-on charted, spanned charted)
 
 cast-t15 : tie.Need-cast-t15
 cast-t15 c = search needs
@@ -114,7 +107,7 @@ between-requires : tie.Need-between-requires
 between-requires c κs =
     let charted = c .before .before .before .before .before in
     let o = ends-on (charted .before) in
-    let k = lent (charted .before .before .before .before) in (
+    let k = lent (charted .before .before .before) in (
       (o .0 .left, o .0 .top, o .1 .left, o .1 .top),
       (omega (arith, o .0 .right, k .wide), omega (arith, o .0 .bottom, k .high), omega (arith, o .1 .right, k .wide), omega (arith, o .1 .bottom, k .high)),
     )
@@ -126,7 +119,7 @@ returns-2 : tie.Need-returns-2
 returns-2 c =
     let called = c .before .before .before .before in
     let charted = called .before .before in
-    let sized = charted .before .before .before .before in
+    let sized = charted .before .before .before in
     let a = sized .before .before .before .before .args in
     let k = lent sized in
     let w = within (charted .before) in
@@ -152,7 +145,7 @@ returns-3 : tie.Need-returns-3
 unfolding lineAnswer
 returns-3 c =
     let tested = c .before in
-    let sized = tested .before .before .before .before .before .before in
+    let sized = tested .before .before .before .before .before in
     let a = sized .before .before .before .before .args in
     refuses (lineDrawing (a .shape) (a .ink) (unmovedCell (a .from)) (unmovedCell (a .to))) _ Coordinate _ (c .undrawn2 .ensures) (simp (if-sheet _ _ (fitted sized), no _ _ (moved (tested .before)) (tested .if3 .taken)))
 
@@ -162,7 +155,7 @@ course-of-requires-2 c κs = search needs
 run-requires : tie.Need-run-requires
 run-requires c κs =
     let limited = c .before .before in
-    let sized = limited .before .before .before .before .before .before in
+    let sized = limited .before .before .before .before .before in
     let a = sized .before .before .before .before .args in
     let l = lifted limited in
     (lent sized, line-runs (a .shape) _ _ _ _ _ (l .0) (l .1) (c .course-of2 .ensures))
@@ -175,7 +168,7 @@ returns-4 c =
     let called = c .before .before in
     let charted = called .before in
     let limited = charted .before .before in
-    let sized = limited .before .before .before .before .before .before in
+    let sized = limited .before .before .before .before .before in
     let a = sized .before .before .before .before .args in
     let l = lifted limited in
     line-done (a .shape) _ _ _ _ _ (l .0) (l .1) (charted .course-of2 .ensures)
@@ -189,8 +182,7 @@ draw-between-spec =
     is-done-requires
     undrawn-requires
     returns
-    is-on-requires
-    is-on-requires-2
+    are-on-requires
     course-of-requires
     whole-line-requires
     cast-t15

@@ -8,7 +8,7 @@ use lib.ListN.{length}
 use denote.Ref.{now}
 use borrow.Author.Tests.{ltb-true}
 use Rattle.laws.proofs.Tests.{no, yes, halves}
-use Rattle.sheet.specs.Sheet.{onSheet, inLimits}
+use Rattle.sheet.specs.Sheet.{inLimits}
 use Rattle.sheet.specs.Inner.{Sheet, unmovedCell, fits}
 use Rattle.sheet.proofs.Lent.{is-sheet, is-no-sheet}
 use Rattle.sheet.proofs.Limits.{fits-sheet}
@@ -33,38 +33,34 @@ fitted c = let asked = c .before in is-sheet _ _ _ _ (asked .before .check .ensu
 lent : (c : tie.Else1) → let a = c .before .before .before .before .args in Sheet (a .shape) (now (a .sheet))
 lent c = let a = c .before .before .before .before .args in fits-sheet (a .shape) (now (a .sheet)) (fitted c)
 
--- the code's test of both ends
-both-on : (c : tie.After-is-on2) → let a = c .before .before .before .before .before .before .args in
-    (c .before .is-on .result && c .is-on2 .result) ≡ (onSheet (a .shape) (unmovedCell (a .from)) && onSheet (a .shape) (unmovedCell (a .to)))
-both-on c = λ i. c .before .is-on .ensures i && c .is-on2 .ensures i
+-- both ends are on the sheet
+ends-on : (c : tie.Else2) → let a = c .before .before .before .before .before .before .args in On (a .shape) (a .from) × On (a .shape) (a .to)
+ends-on c = let h = halves _ _ (yes _ _ (c .before .are-on .ensures) (c .if2 .left)) in (on-of _ _ (h .0), on-of _ _ (h .1))
 
-ends-on : (c : tie.Else2) → let a = c .before .before .before .before .before .before .before .args in On (a .shape) (a .from) × On (a .shape) (a .to)
-ends-on c = let h = halves _ _ (yes _ _ (both-on (c .before)) (c .if2 .left)) in (on-of _ _ (h .0), on-of _ _ (h .1))
-
-within : (c : tie.Else2) → let a = c .before .before .before .before .before .before .before .args in (inLimits (unmovedCell (a .from)) ≡ true) × (inLimits (unmovedCell (a .to)) ≡ true)
+within : (c : tie.Else2) → let a = c .before .before .before .before .before .before .args in (inLimits (unmovedCell (a .from)) ≡ true) × (inLimits (unmovedCell (a .to)) ≡ true)
 within c =
-    let a = c .before .before .before .before .before .before .before .args in
+    let a = c .before .before .before .before .before .before .args in
     let o = ends-on c in
-    let k = lent (c .before .before .before) in
+    let k = lent (c .before .before) in
     (on-limits (a .shape) (a .from) (k .wide) (k .high) (o .0), on-limits (a .shape) (a .to) (k .wide) (k .high) (o .1))
 
 runs-on : (c : tie.After-course-of) → Runs (c .course-of .result)
 runs-on c =
-    let a = c .before .before .before .before .before .before .before .before .args in
+    let a = c .before .before .before .before .before .before .before .args in
     let w = within (c .before) in
     line-runs (a .shape) _ _ _ _ _ (spot-lifted (a .from) (w .0)) (spot-lifted (a .to) (w .1)) (c .course-of .ensures)
 
-spanned : (c : tie.After-course-of) → let course = c .course-of .result in Spans (c .before .before .before .before .before .before .before .before .args .shape) course 0 (course .long + 1)
+spanned : (c : tie.After-course-of) → let course = c .course-of .result in Spans (c .before .before .before .before .before .before .before .args .shape) course 0 (course .long + 1)
 spanned c =
-    let a = c .before .before .before .before .before .before .before .before .args in
+    let a = c .before .before .before .before .before .before .before .args in
     let o = ends-on (c .before) in
     course-whole (a .shape) _ (a .from) (a .to) (c .course-of .ensures) (runs-on c) (o .0) (o .1)
 
 -- the code's test of its length
-both-long : (c : tie.After-course-of) → let a = c .before .before .before .before .before .before .before .before .args in
+both-long : (c : tie.After-course-of) → let a = c .before .before .before .before .before .before .before .args in
     let l = c .course-of .result .long in let L = long (unmovedCell (a .from)) (unmovedCell (a .to)) in (ltb 0 l && ltb l 128) ≡ (ltb 0 L && ltb L 128)
 both-long c =
-    let a = c .before .before .before .before .before .before .before .before .args in
+    let a = c .before .before .before .before .before .before .before .args in
     let w = within (c .before) in
     let e = ap (λ (d : Course). d .long) (c .course-of .ensures) ∙ course-long _ _ (a .from) (a .to) (spot-lifted (a .from) (w .0)) (spot-lifted (a .to) (w .1)) in
     λ i. ltb 0 (e i) && ltb (e i) 128
@@ -83,14 +79,11 @@ returns c =
     let asked = c .before in
     (sym (short-sheet _ _ _ _ (is-no-sheet _ _ _ _ (asked .before .check .ensures) (asked .is-done .ensures) (c .if1 .taken))), refl)
 
-is-on-requires : tie.Need-is-on-requires
-is-on-requires c κs = let k = lent c in (k .wide, k .high)
-
-is-on-requires-2 : tie.Need-is-on-requires-2
-is-on-requires-2 c κs = let k = lent (c .before) in (k .wide, k .high)
+are-on-requires : tie.Need-are-on-requires
+are-on-requires c κs = let k = lent c in (k .wide, k .high)
 
 returns-2 : tie.Need-returns-2
-returns-2 c = (sym (short-ends _ _ _ _ (no _ _ (both-on (c .before)) (c .if2 .taken))), refl)
+returns-2 c = (sym (short-ends _ _ _ _ (no _ _ (c .before .are-on .ensures) (c .if2 .taken))), refl)
 
 course-of-requires : tie.Need-course-of-requires
 course-of-requires c κs = search needs
@@ -102,7 +95,7 @@ byte-at-requires : tie.Need-byte-at-requires
 byte-at-requires c κs =
     let charted = c .before in
     let course = charted .course-of .result in
-    let k = lent (charted .before .before .before .before) in
+    let k = lent (charted .before .before .before) in
     ((k .far, k .wide, k .high, runs-on charted), (omega arith, sym (rise-start (course .long) (course .short)), spanned charted .on 0 (omega arith) (omega arith)))
 
 short-slope-requires : tie.Need-short-slope-requires
@@ -117,7 +110,7 @@ walk-requires : tie.Need-walk-requires
 walk-requires c κs =
     let placed = c .before .before in
     let charted = placed .before .before in
-    ((lent (charted .before .before .before .before), runs-on charted), (omega arith, spanned charted, c .before .short-slope .ensures, placed .byte-at .ensures))
+    ((lent (charted .before .before .before), runs-on charted), (omega arith, spanned charted, c .before .short-slope .ensures, placed .byte-at .ensures))
 
 same-length : tie.Need-same-length
 same-length c = search needs
@@ -128,9 +121,9 @@ returns-4 c =
     let measured = called .before .before .before .before in
     let charted = measured .before in
     let ended = charted .before in
-    let a = charted .before .before .before .before .before .before .before .before .args in
+    let a = charted .before .before .before .before .before .before .before .args in
     let w = within ended in (
-      sym (short-asked _ _ _ _ (fitted (ended .before .before .before)) (yes _ _ (both-on (ended .before)) (ended .if2 .left)) (yes _ _ (both-long charted) (measured .if3 .left))),
+      sym (short-asked _ _ _ _ (fitted (ended .before .before)) (yes _ _ (ended .before .are-on .ensures) (ended .if2 .left)) (yes _ _ (both-long charted) (measured .if3 .left))),
       line-painted (a .shape) _ _ _ _ _ (spot-lifted (a .from) (w .0)) (spot-lifted (a .to) (w .1)) (charted .course-of .ensures) (a .ink) _ _ (called .walk .ensures),
     )
 
@@ -141,8 +134,7 @@ draw-short-spec =
     check-requires
     is-done-requires
     returns
-    is-on-requires
-    is-on-requires-2
+    are-on-requires
     returns-2
     course-of-requires
     returns-3
