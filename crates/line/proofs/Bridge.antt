@@ -1,7 +1,8 @@
 -- From the moved plane to the rule: the course of two lifted ends runs over the line's cells.
-use Prim.Native.Nat.{ℕ, _+_, _≤_, min}
+use Prim.Native.Nat.{ℕ, _+_, _*_, _≤_, _<_, min}
 use mathlib.Core.Path.{_≡_, refl, sym, subst, ap, _∙_}
 use mathlib.Core.Bool.{Bool, true, false, cond, _&&_, _||_}
+use mathlib.Core.Logic.{⊎-elim}
 use native.Mathlib.Omega.{arith}
 use borrow.Author.Tests.{ltb-true, ltb-false, eqb-true, le-leb}
 use lib.Dec.{T, ltb, leb, eqb, ltb→lt, lt→ltb, leb→le, le→leb, eqb→eq}
@@ -9,7 +10,8 @@ use lib.IntN.{ℤ, pos, natAbs, _+ℤ_, _-ℤ_}
 use lib.Signed.{ltZ, leZ}
 use Rattle.laws.specs.Equal.{eqZ}
 use Rattle.laws.proofs.Ints.{parts, one-zero, le-parts, lt-parts, to-leZ, to-ltZ, to-≡ℤ, from-≡ℤ, eqZ→≡, eqZ-refl}
-use Rattle.laws.proofs.Tests.{same, from-true, halves, eqb-of}
+use Rattle.laws.proofs.Products.{lt-or-ge}
+use Rattle.laws.proofs.Tests.{same, and-l, and-r, and-i, or-l, or-r, or-e, from-true, halves, eqb-of}
 use Rattle.sheet.specs.Chain.{wide, tall}
 use Rattle.sheet.specs.Sheet.{inLimits}
 use Rattle.sheet.specs.Inner.{unmoved, movedCell, unmovedCell, Moved}
@@ -81,6 +83,26 @@ cond-le false m n k p q = q
 
 pub longer-le : (w t k : ℕ) → w ≤ k → t ≤ k → longer w t ≤ k
 longer-le w t k p q = cond-le (ltb w t) t w k q p
+
+-- spots by their rows and then their columns
+pub order-lesser : (p q : Spot) → p .x < 4294967296 → q .x < 4294967296 → leb (4294967296 * p .y + p .x) (4294967296 * q .y + q .x) ≡ lesserSpot p q
+order-lesser p q u v = same _ _ to from
+  where
+    to : T (leb (4294967296 * p .y + p .x) (4294967296 * q .y + q .x)) → T (lesserSpot p q)
+    to t =
+        let h = leb→le (4294967296 * p .y + p .x) (4294967296 * q .y + q .x) t in
+        ⊎-elim
+        (λ l. or-l (ltb (p .y) (q .y)) _ (lt→ltb (p .y) (q .y) l))
+        (λ g. or-r (ltb (p .y) (q .y)) _ (and-i (eqb (p .y) (q .y)) (leb (p .x) (q .x)) (eqb-of (p .y) (q .y) (omega arith)) (le→leb (p .x) (q .x) (omega arith))))
+        (lt-or-ge (p .y) (q .y))
+
+    from : T (lesserSpot p q) → T (leb (4294967296 * p .y + p .x) (4294967296 * q .y + q .x))
+    from t =
+        le→leb (4294967296 * p .y + p .x) (4294967296 * q .y + q .x)
+        (⊎-elim
+        (λ l. omega (arith, ltb→lt (p .y) (q .y) l))
+        (λ g. omega (arith, eqb→eq (p .y) (q .y) (and-l (eqb (p .y) (q .y)) (leb (p .x) (q .x)) g), leb→le (p .x) (q .x) (and-r (eqb (p .y) (q .y)) (leb (p .x) (q .x)) g)))
+        (or-e (ltb (p .y) (q .y)) (eqb (p .y) (q .y) && leb (p .x) (q .x)) t))
 
 -- a lesser spot has no greater y
 pub lesser-y : (p q : Spot) → lesserSpot p q ≡ true → p .y ≤ q .y

@@ -1,7 +1,7 @@
 // Lines: the drawing, the listing and the pen, all by one rule.
 ghost use mathlib.Core.Path.{_≡_};
 ghost use mathlib.Core.Bool.{cond, _&&_};
-ghost use Prim.Native.Nat.{_≤_, min, max};
+ghost use Prim.Native.Nat.{_+_, _*_, _≤_, min, max};
 ghost use Rattle.sheet.specs.Sheet.{inLimits};
 ghost use Rattle.line.specs.Inner.Course.{gap, stepped, spotAt, lesserSpot, courseOf, Runs};
 ghost use Rattle.line.specs.Rule.{rise};
@@ -74,10 +74,17 @@ fn gap_of(a: u32, b: u32) -> u32
     larger(a, b) - smaller(a, b)
 }
 
+// What spots are ordered by: their rows, and in a row their columns.
+fn order(spot: Spot) -> u64
+    ensures { λ r. ⌜ r ≡ 4294967296 * spot .y + spot .x ⌝ }
+{
+    4294967296 * spot.y as u64 + spot.x as u64
+}
+
 fn is_lesser(a: Spot, b: Spot) -> bool
     ensures { λ r. ⌜ r ≡ lesserSpot a b ⌝ }
 {
-    (a.y < b.y) | ((a.y == b.y) & (a.x <= b.x))
+    order(a) <= order(b)
 }
 
 // The course of the line with these ends.
