@@ -1,9 +1,11 @@
 -- What a piece of a curve adds to what is drawn, its first point included: all of its line, by the second point alone where the two touch.
-use Prim.Native.Nat.{ℕ, _≤_}
+use Prim.Native.Nat.{ℕ, _+_, _%_, _^_, _≤_, _<_}
 use mathlib.Core.Path.{_≡_, refl, sym, ap, _∙_}
 use mathlib.Core.List.{List}
-use mathlib.Core.Bool.{Bool, true, false, _||_, or-false}
-use Rattle.laws.proofs.Tests.{from-true}
+use mathlib.Core.Bool.{Bool, true, false, _&&_, _||_, or-false}
+use native.Mathlib.Omega.{arith}
+use lib.Dec.{T, leb, leb→le, le→leb}
+use Rattle.laws.proofs.Tests.{and-l, and-r, and-i, same, from-true}
 use Rattle.sheet.specs.Sheet.{onSheet, cellOf, isCell, paint}
 use Rattle.sheet.specs.Repaint.{join, boxOf}
 use Rattle.sheet.specs.Inner.{Sheet, unmovedCell, inkedAt, joinedAt}
@@ -19,6 +21,13 @@ use Rattle.line.specs.Rule.{long, onLine}
 use Rattle.line.proofs.Ended.{line-box}
 use Rattle.line.proofs.Touching.{on-touching}
 use Rattle.curve.specs.Inner.{Adds}
+
+-- the code's test of two coordinates: a + 1 less b, modulo 2^32, is 0, 1 or 2
+pub near-test : (a b d : ℕ) → a < 131072 → b < 131072 → d < 4294967296 → (d + b) % 2 ^ 32 ≡ a + 1 → leb d 2 ≡ (leb a (b + 1) && leb b (a + 1))
+near-test a b d u v w e =
+    same (leb d 2) (leb a (b + 1) && leb b (a + 1))
+    (λ t. let l = leb→le d 2 t in and-i (leb a (b + 1)) (leb b (a + 1)) (le→leb a (b + 1) (omega arith)) (le→leb b (a + 1) (omega arith)))
+    (λ t. let l = leb→le a (b + 1) (and-l (leb a (b + 1)) (leb b (a + 1)) t) in let m = leb→le b (a + 1) (and-r (leb a (b + 1)) (leb b (a + 1)) t) in le→leb d 2 (omega arith))
 
 -- a cell that a figure has adds nothing to it
 had : (f : Cell → Bool) (a d : Cell) → f a ≡ true → (f d || isCell a d) ≡ f d

@@ -232,12 +232,12 @@ fn advanced(way: Way) -> Way
     }
 }
 
-// Whether two coordinates are the same or neighbours.
+// Whether two coordinates are the same or neighbours: a + 1 less b is then 0, 1 or 2, and otherwise more, or it wraps.
 fn near(a: u32, b: u32) -> bool
     requires { ⌜ (a < 131072) × (b < 131072) ⌝ }
     ensures { λ r. ⌜ r ≡ (leb a (b + 1) && leb b (a + 1)) ⌝ }
 {
-    (a <= b + 1) & (b <= a + 1)
+    std::num::wrapping_sub_u32(a + 1, b) <= 2
 }
 
 // Draws the line between two points within the limits, of which the first is drawn: where they touch, or are one, the second. Answers the
