@@ -110,9 +110,10 @@ module _ (k : Shape) (ink : ℕ) (ps : List Cell) (s : ℕ) where
           (subst (λ (c : Cell). T (onLine (pointAt ps (2 ^ s) 0) (pointAt ps (2 ^ s) 1) c)) (sym (is-cell→ (pointAt ps (2 ^ s) 0) d t)) (line-first (pointAt ps (2 ^ s) 0) (pointAt ps (2 ^ s) 1)))
       by (inr t) = t
 
-  pub begins : (before sheet : List ℕ) (way : Way) (from : Spot) (r : Rectangle) → Pointed k ink ps s before sheet r → Leads ps s 0 way
-      → unmovedCell from ≡ pointAt ps (2 ^ s) 0 → Joining k ink ps s before sheet way from r 0
-  begins before sheet way from r g l e =
+  pub begins : (before sheet : List ℕ) (way : Way) (from : Spot) (r : Rectangle) (i : ℕ) → i ≡ 0 → Pointed k ink ps s before sheet r → Leads ps s 0 way
+      → unmovedCell from ≡ pointAt ps (2 ^ s) 0 → Joining k ink ps s before sheet way from r i
+  begins before sheet way from r i z g l e =
+      rw z
       record {
         low = omega arith;
         leads = l;
@@ -122,15 +123,16 @@ module _ (k : Shape) (ink : ℕ) (ps : List Cell) (s : ℕ) where
         sized = g .sized;
       }
 
-  pub turn : (before sheet t : List ℕ) (way further : Way) (from to : Spot) (q r : Rectangle) (i : ℕ) → Joining k ink ps s before sheet way from q i → i + 1 ≤ 2 ^ s
+  pub turn : (before sheet t : List ℕ) (way further : Way) (from to : Spot) (q r : Rectangle) (i j : ℕ) → j ≡ i + 1 → Joining k ink ps s before sheet way from q i → i + 1 ≤ 2 ^ s
       → Leads ps s (i + 1) further → unmovedCell to ≡ pointAt ps (2 ^ s) (i + 1)
       → Adds k ink (unmovedCell from) (onLine (unmovedCell from) (unmovedCell to)) sheet t q r
-      → Joining k ink ps s before t further to r (i + 1)
-  turn before sheet t way further from to q r i g l h e f =
+      → Joining k ink ps s before t further to r j
+  turn before sheet t way further from to q r i j z g l h e f =
       let line = onLine (unmovedCell from) (unmovedCell to) in
       let had : drawnTo ps s i (unmovedCell from) ≡ true = ap (drawnTo ps s i) (g .from-is) ∙ has-point i in
       let same : (d : Cell) → (drawnTo ps s i d || line d) ≡ drawnTo ps s (i + 1) d = λ d. (λ j. drawnTo ps s i d || onLine (g .from-is j) (e j) d) ∙ more-pieces i d in
       let added = f .painted (drawnTo ps s i) before had (g .inked) in
+      rw z
       record {
         low = l;
         leads = h;

@@ -272,14 +272,13 @@ fn join(sheet: &mut [u8], shape: Shape, ink: u8, controls: Controls, s: u32) -> 
     ensures { λ _. ⌜ now (sheet .exit) ≡ paint shape ink (onCurve (pointsOf controls) s) (now (sheet .entry)) ⌝ }
     ensures { λ r. ⌜ r ≡ boxOf shape (onCurve (pointsOf controls) s) ⌝ }
 {
-    let n = pieces(s);
+    let mut left = pieces(s);
     let mut way = way_of(controls, s);
     let mut from = spot_of(way);
     sheet::ink_at(sheet, shape, ink, from);
     let mut rectangle = sheet::join_at(shape, from, Rectangle::none());
-    let mut i: u32 = 0;
-    while i < n {
-        i += 1;
+    while 0 < left {
+        left -= 1;
         way = advanced(way);
         let to = spot_of(way);
         rectangle = piece(sheet, shape, ink, from, to, rectangle);

@@ -19,12 +19,17 @@ use Rattle.curve.proofs.join.Tie as tie
 
 -- of the control points the loop keeps no more than the way that it began with: it joins the points of each curve that this leads along
 abbrev Inv-loop : tie.InvT-loop
-Inv-loop sheet₀ shape ink s n way₀ from₀ rectangle₀ i₀ sheet way from rectangle i =
-    (ps : List Cell) (before : List ℕ) → Begun ps s way₀ → Pointed shape ink ps s before sheet₀ rectangle₀
-    → Joining shape ink ps s before sheet way from rectangle i
+Inv-loop sheet₀ shape ink s left₀ way₀ from₀ rectangle₀ sheet left way from rectangle =
+    (left ≤ 2 ^ s)
+    × ((ps : List Cell) (before : List ℕ) → Begun ps s way₀ → Pointed shape ink ps s before sheet₀ rectangle₀
+    → Joining shape ink ps s before sheet way from rectangle (2 ^ s - left))
 
 abbrev μ-loop : tie.MeasureT-loop
-μ-loop sheet₀ shape ink s n way₀ from₀ rectangle₀ i₀ sheet way from rectangle i = n - i
+μ-loop sheet₀ shape ink s left₀ way₀ from₀ rectangle₀ sheet left way from rectangle = left
+
+-- how many pieces are joined
+abbrev gone : tie.At-loop Inv-loop μ-loop → ℕ
+gone c = 2 ^ c .before .before .before .before .before .before .before .before .before .before .before .args .s - c .loop .left
 
 begun : (c : tie.After-way-of Inv-loop μ-loop) → let a = c .before .before .before .args in Begun (pointsOf (a .controls)) (a .s) (c .way-of .result)
 begun c =
@@ -38,26 +43,26 @@ first-spot : (c : tie.After-spot-of Inv-loop μ-loop) (ps : List Cell) → Begun
 first-spot c ps b = ap unmovedCell (c .spot-of .ensures) ∙ spot-stands ps (b .some) (b .few) _ 0 _ (b .leads) (b .split) (omega arith)
 
 -- a turn goes one point further, and there is one
-low : (c : tie.In-loop Inv-loop μ-loop) → c .before .loop .i + 1 ≤ 2 ^ c .before .before .before .before .before .before .before .before .before .before .before .before .args .s
-low c = omega (arith, c .before .before .before .before .before .before .before .before .before .before .pieces .ensures .0)
+low : (c : tie.In-loop Inv-loop μ-loop) → gone (c .before) + 1 ≤ 2 ^ c .before .before .before .before .before .before .before .before .before .before .before .before .args .s
+low c = omega (arith, c .before .loop .inv .0, c .loop-test .taken)
 
 -- what the loop has joined
 joined : (c : tie.At-loop Inv-loop μ-loop) → let l = c .loop in let a = c .before .before .before .before .before .before .before .before .before .before .before .args in
-    Joining (a .shape) (a .ink) (pointsOf (a .controls)) (a .s) (now (a .sheet)) (l .sheet) (l .way) (l .from) (l .rectangle) (l .i)
+    Joining (a .shape) (a .ink) (pointsOf (a .controls)) (a .s) (now (a .sheet)) (l .sheet) (l .way) (l .from) (l .rectangle) (gone c)
 joined c =
     let spotted = c .before .before .before .before .before .before .before in
     let start = spotted .before .before .before .before in
     let b = begun (spotted .before) in
-    c .loop .inv (pointsOf (start .args .controls)) (now (start .args .sheet)) b
+    c .loop .inv .1 (pointsOf (start .args .controls)) (now (start .args .sheet)) b
     (points (start .args .shape) (start .args .ink) _ (start .args .s) _ _ (spotted .spot-of .result) _ _ (start .pre .0) (first-spot spotted _ b)
     (c .before .before .before .before .before .ink-at .ensures) (c .before .before .none .ensures) (c .before .join-at .ensures))
 
 further : (c : tie.After-advanced Inv-loop μ-loop) (ps : List Cell) → let head = c .before .before in let led = head .before .before .before .before .before .before .before .before in let a = led .before .before .before .args in
-    Begun ps (a .s) (led .way-of .result) → Leads ps (a .s) (head .loop .i) (head .loop .way) → Leads ps (a .s) (head .loop .i + 1) (c .advanced .result)
+    Begun ps (a .s) (led .way-of .result) → Leads ps (a .s) (gone head) (head .loop .way) → Leads ps (a .s) (gone head + 1) (c .advanced .result)
 further c ps b g =
     let head = c .before .before in
     let s = head .before .before .before .before .before .before .before .before .before .before .before .args .s in
-    subst (λ (w : Way). Leads ps s (head .loop .i + 1) w) (sym (c .advanced .ensures)) (leads-next ps (b .some) (b .few) s (head .loop .i) (head .loop .way) g (b .split))
+    subst (λ (w : Way). Leads ps s (gone head + 1) w) (sym (c .advanced .ensures)) (leads-next ps (b .some) (b .few) s (gone head) (head .loop .way) g (b .split))
 
 pieces-requires : tie.Need-pieces-requires Inv-loop μ-loop
 pieces-requires c κs = c .before .pre .2
@@ -82,11 +87,16 @@ join-at-requires c κs = search needs
 loop-holds : tie.Need-loop-holds Inv-loop μ-loop
 loop-holds c =
     let spotted = c .before .before .before .before .before .before in
-    let a = spotted .before .before .before .before .args in
-    λ ps before b g. begins (a .shape) (a .ink) ps (a .s) before _ (spotted .before .way-of .result) (spotted .spot-of .result) _ g (b .leads) (first-spot spotted ps b)
+    let counted = spotted .before .before in
+    let a = counted .before .before .args in (
+      omega (arith, counted .pieces .ensures .0),
+      λ ps before b g.
+          begins (a .shape) (a .ink) ps (a .s) before _ (spotted .before .way-of .result) (spotted .spot-of .result) _ _ (omega (arith, counted .pieces .ensures .0))
+          g (b .leads) (first-spot spotted ps b),
+    )
 
-add-i : tie.Need-add-i Inv-loop μ-loop
-add-i c = omega (arith, c .before .before .before .before .before .before .before .before .before .before .pieces .ensures .1)
+sub-left : tie.Need-sub-left Inv-loop μ-loop
+sub-left c = search needs
 
 advanced-requires : tie.Need-advanced-requires Inv-loop μ-loop
 advanced-requires c κs = tt
@@ -113,14 +123,18 @@ loop-again : tie.Need-loop-again Inv-loop μ-loop
 loop-again c =
     let called = c .before .before in
     let pointed = called .before .before in
-    let head = pointed .before .before .before in
+    let tested = pointed .before .before in
+    let head = tested .before in
     let a = head .before .before .before .before .before .before .before .before .before .before .before .args in
-    let m = low (pointed .before .before) in
-    λ ps before b p.
-    let g = head .loop .inv ps before b p in
-    let h = further (pointed .before) ps b (g .leads) in
-    turn (a .shape) (a .ink) ps (a .s) before (head .loop .sheet) _ (head .loop .way) _ (head .loop .from) (pointed .spot-of2 .result) (head .loop .rectangle) _ (head .loop .i)
-    g m h (ap unmovedCell (pointed .spot-of2 .ensures) ∙ spot-stands ps (b .some) (b .few) (a .s) _ _ h (b .split) m) (called .piece .ensures)
+    let bound = head .loop .inv .0 in (
+      omega (arith, bound),
+      λ ps before b p.
+          let g = head .loop .inv .1 ps before b p in
+          let h = further (pointed .before) ps b (g .leads) in
+          turn (a .shape) (a .ink) ps (a .s) before (head .loop .sheet) _ (head .loop .way) _ (head .loop .from) (pointed .spot-of2 .result) (head .loop .rectangle) _ (gone head) _
+          (omega (arith, bound, tested .loop-test .taken)) g (low tested) h
+          (ap unmovedCell (pointed .spot-of2 .ensures) ∙ spot-stands ps (b .some) (b .few) (a .s) _ _ h (b .split) (low tested)) (called .piece .ensures),
+    )
 
 same-length : tie.Need-same-length Inv-loop μ-loop
 same-length c =
@@ -130,10 +144,9 @@ same-length c =
 returns : tie.Need-returns Inv-loop μ-loop
 returns c =
     let head = c .before in
-    let counted = head .before .before .before .before .before .before .before .before .before in
-    let a = counted .before .before .args in
-    ends (a .shape) (a .ink) _ (a .s) (now (a .sheet)) (head .loop .sheet) (head .loop .way) (head .loop .from) (head .loop .rectangle) (head .loop .i)
-    (joined head) (omega (arith, counted .pieces .ensures .0))
+    let a = head .before .before .before .before .before .before .before .before .before .before .before .args in
+    ends (a .shape) (a .ink) _ (a .s) (now (a .sheet)) (head .loop .sheet) (head .loop .way) (head .loop .from) (head .loop .rectangle) (gone head)
+    (joined head) (omega (arith, c .loop-test .left))
 
 pub join-spec : {M : Type 1} → statement M
 join-spec =
@@ -148,7 +161,7 @@ join-spec =
     none-requires
     join-at-requires
     loop-holds
-    add-i
+    sub-left
     advanced-requires
     spot-of-requires-2
     piece-requires
