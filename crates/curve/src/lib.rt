@@ -262,7 +262,13 @@ fn piece(
     if line::draw_short(sheet, shape, ink, from, to) {
         return sheet::join_at(shape, to, rectangle);
     }
-    let drawn = line::draw_between(sheet, shape, ink, from, to);
+    // The shape anew: lent as it is, the compiler would store it for every piece.
+    let own = Shape {
+        width: shape.width,
+        height: shape.height,
+        pitch: shape.pitch,
+    };
+    let drawn = line::draw_between(sheet, own, ink, from, to);
     rectangle.join(drawn.rectangle)
 }
 
