@@ -1,10 +1,11 @@
 -- What the callee told, told on to C: the number, and the value.
-use Prim.Native.Nat.{ℕ, _-_, _<_}
+use Prim.Native.Nat.{ℕ, _-_, _≤_, _<_}
 use mathlib.Core.Path.{_≡_, refl, sym, subst, ap, ap₂, _∙_}
 use mathlib.Core.List.{List, [], _∷_}
 use mathlib.Core.Bool.{Bool, true, false, cond}
 use native.Mathlib.Omega.{arith}
-use lib.Dec.{eqb, ltb}
+use borrow.Author.Tests.{lt-ltb, le-ltb}
+use lib.Dec.{eqb}
 use lib.IntN.{ℤ, pos}
 use lib.ListN.{length}
 use mir.Syntax.{w32}
@@ -54,18 +55,13 @@ number-told : (a : Answer) → Tells None a → a ≡ numbered (a .number)
 number-told _ (Tells.refused r) = refl
 number-told _ (Tells.done v e) = ap reply.done e
 
--- the four numbers, each found by itself
-pub box-written : (a : Answer) (r : Rectangle) (s : List ℕ) (x y w h : ℕ) → isDone a ≡ true
-    → x ≡ cond (ltb (r .left) (r .right)) (r .left) 0 → y ≡ cond (ltb (r .left) (r .right)) (r .top) 0
-    → w ≡ cond (ltb (r .left) (r .right)) (r .right - r .left) 0 → h ≡ cond (ltb (r .left) (r .right)) (r .bottom - r .top) 0
-    → x ∷ y ∷ w ∷ h ∷ [] ≡ settled a (boxNumbers r) s
-box-written a r s x y w h d ex ey ew eh = (λ i. ex i ∷ ey i ∷ ew i ∷ eh i ∷ []) ∙ by (ltb (r .left) (r .right)) ∙ sym (simp d)
-  where
-    by : (t : Bool)
-        → cond t (r .left) 0 ∷ cond t (r .top) 0 ∷ cond t (r .right - r .left) 0 ∷ cond t (r .bottom - r .top) 0 ∷ []
-        ≡ cond t (r .left ∷ r .top ∷ (r .right - r .left) ∷ (r .bottom - r .top) ∷ []) (0 ∷ 0 ∷ 0 ∷ 0 ∷ [])
-    by true = refl
-    by false = refl
+-- the four numbers, for no cell and for some
+module _ (a : Answer) (r : Rectangle) (s : List ℕ) (d : isDone a ≡ true) where
+  pub box-none : r .right ≤ r .left → 0 ∷ 0 ∷ 0 ∷ 0 ∷ [] ≡ settled a (boxNumbers r) s
+  box-none l = sym (simp (d, le-ltb (r .left) (r .right) l))
+
+  pub box-some : (h : ℕ) → r .left < r .right → h ≡ r .bottom - r .top → r .left ∷ r .top ∷ (r .right - r .left) ∷ h ∷ [] ≡ settled a (boxNumbers r) s
+  box-some h l e = (λ i. r .left ∷ r .top ∷ (r .right - r .left) ∷ e i ∷ []) ∙ sym (simp (d, lt-ltb (r .left) (r .right) l))
 
 -- a drawing's answer, told with its rectangle
 module _ (d : Drawing) (s t : List ℕ) (a : Answer) (h : Draws d s a t) where

@@ -1,7 +1,6 @@
 // What C and Rust link: the drawings on numbers and slices, the pen, writing records and rescuing a damaged file.
 // Each answers a number of the table; but a pen that is asked answers 1 for a cell and 0 for finished.
 ghost use mathlib.Core.Path.{_≡_};
-ghost use mathlib.Core.Bool.{cond};
 ghost use Prim.Native.Nat.{_-_, _<_};
 ghost use Rattle.sheet.specs.Reply.{told, toldDrawn, valueOf, settled};
 ghost use Rattle.pistonwool.specs.Told.{boxNumbers};
@@ -34,13 +33,7 @@ pub use writing::pw_write_curve;
 pub use writing::pw_write_ellipse;
 pub use writing::pw_write_line;
 
-// The one or the other; a less b, or 0 where that is below 0.
-fn chosen(first: bool, a: u32, b: u32) -> u32
-    ensures { λ r. ⌜ r ≡ cond first a b ⌝ }
-{
-    if first { a } else { b }
-}
-
+// a less b, or 0 where that is below 0.
 fn less(a: u32, b: u32) -> u32
     ensures { λ r. ⌜ r ≡ a - b ⌝ }
 {
@@ -59,13 +52,11 @@ fn tell_box(drawn: Drawn, told: &mut [u32; 4])
     let top = drawn.rectangle.top;
     let right = drawn.rectangle.right;
     let bottom = drawn.rectangle.bottom;
-    let some = left < right;
-    *told = [
-        chosen(some, left, 0),
-        chosen(some, top, 0),
-        chosen(some, less(right, left), 0),
-        chosen(some, less(bottom, top), 0),
-    ];
+    if right <= left {
+        *told = [0, 0, 0, 0];
+        return;
+    }
+    *told = [left, top, right - left, less(bottom, top)];
 }
 
 // Tells a reply that counts cells: its number, and how many in cells where it is done.

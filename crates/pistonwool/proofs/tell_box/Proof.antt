@@ -1,14 +1,12 @@
 -- `pistonwool::tell_box` meets its contract.
-use Prim.Native.Nat.{ℕ}
-use mathlib.Core.Path.{sym, ap, _∙_}
+use mathlib.Core.Path.{sym, ap}
 use mathlib.Core.Bool.{Bool, cond}
-use lib.Dec.{ltb}
 use denote.Ref.{now}
 use Rattle.laws.proofs.Tests.{no, yes}
 use Rattle.sheet.specs.Reply.{toldDrawn}
 use borrow.Author.Needs.{needs}
 use Rattle.pistonwool.specs.Told.{boxNumbers}
-use Rattle.pistonwool.proofs.Told.{box-written}
+use Rattle.pistonwool.proofs.Told.{box-none, box-some}
 use Rattle.pistonwool.proofs.tell_box.Statement.{statement}
 use Rattle.pistonwool.proofs.tell_box.Tie as tie
 
@@ -20,43 +18,27 @@ returns c =
     let a = c .before .before .args in
     sym (ap (λ (t : Bool). cond t (boxNumbers (a .drawn .rectangle)) (now (a .told))) (no _ _ (c .before .is-done .ensures) (c .if1 .taken)))
 
-chosen-requires : tie.Need-chosen-requires
-chosen-requires c κs = search needs
+returns-2 : tie.Need-returns-2
+returns-2 c =
+    let none = c .before in
+    let tested = none .before in
+    let a = tested .before .before .args in
+    box-none (toldDrawn (a .drawn)) (a .drawn .rectangle) (now (a .told)) (yes _ _ (tested .before .is-done .ensures) (tested .if1 .left)) (none .if2 .taken)
 
-chosen-requires-2 : tie.Need-chosen-requires-2
-chosen-requires-2 c κs = search needs
+sub-t10 : tie.Need-sub-t10
+sub-t10 c = search needs
 
 less-requires : tie.Need-less-requires
 less-requires c κs = search needs
 
-chosen-requires-3 : tie.Need-chosen-requires-3
-chosen-requires-3 c κs = search needs
-
-less-requires-2 : tie.Need-less-requires-2
-less-requires-2 c κs = search needs
-
-chosen-requires-4 : tie.Need-chosen-requires-4
-chosen-requires-4 c κs = search needs
-
-returns-2 : tie.Need-returns-2
-returns-2 c =
-    let tested = c .before .before .before .before .before .before .before in
+returns-3 : tie.Need-returns-3
+returns-3 c =
+    let some = c .before .before in
+    let tested = some .before in
     let a = tested .before .before .args in
-    box-written (toldDrawn (a .drawn)) (a .drawn .rectangle) (now (a .told)) _ _ _ _ (yes _ _ (tested .before .is-done .ensures) (tested .if1 .left))
-    (c .before .before .before .before .before .before .chosen .ensures) (c .before .before .before .before .before .chosen2 .ensures)
-    (c .before .before .before .chosen3 .ensures ∙ ap (λ (n : ℕ). cond (ltb (a .drawn .rectangle .left) (a .drawn .rectangle .right)) n 0) (c .before .before .before .before .less .ensures))
-    (c .before .chosen4 .ensures ∙ ap (λ (n : ℕ). cond (ltb (a .drawn .rectangle .left) (a .drawn .rectangle .right)) n 0) (c .before .before .less2 .ensures))
+    box-some (toldDrawn (a .drawn)) (a .drawn .rectangle) (now (a .told)) (yes _ _ (tested .before .is-done .ensures) (tested .if1 .left)) _ (some .if2 .left) (c .before .less .ensures)
 
 pub tell-box-spec : {M : Type 1} → statement M
 tell-box-spec =
     tie.close
-    (tie.spec
-    is-done-requires
-    returns
-    chosen-requires
-    chosen-requires-2
-    less-requires
-    chosen-requires-3
-    less-requires-2
-    chosen-requires-4
-    returns-2)
+    (tie.spec is-done-requires returns returns-2 sub-t10 less-requires returns-3)
