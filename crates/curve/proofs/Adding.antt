@@ -4,7 +4,7 @@ use mathlib.Core.Path.{_≡_, refl, sym, ap, _∙_}
 use mathlib.Core.List.{List}
 use mathlib.Core.Bool.{Bool, true, false, _&&_, _||_, or-false}
 use native.Mathlib.Omega.{arith}
-use lib.Dec.{T, leb, leb→le, le→leb}
+use lib.Dec.{leb, leb→le, le→leb}
 use Rattle.laws.proofs.Tests.{and-l, and-r, and-i, same, from-true}
 use Rattle.sheet.specs.Sheet.{onSheet, cellOf, isCell, paint}
 use Rattle.sheet.specs.Repaint.{join, boxOf}
