@@ -15,7 +15,7 @@ use Rattle.sheet.specs.Repaint.{nothing}
 use Rattle.sheet.specs.Reply.{Answer, number, told, withBox, toldDrawn, isDone}
 use Rattle.sheet.specs.declared.Drawn.{Drawn}
 use Rattle.sheet.specs.declared.Refusal.{Refusal}
-use Rattle.sheet.specs.declared.Refusal.the-variants.{Size, Coordinate, Radius, Pieces, Room, Survey, NoCell, Short, Kind, Length, Full, Slice, Kindless, Work, Start}
+use Rattle.sheet.specs.declared.Refusal.the-variants.{Size, Coordinate, Radius, Pieces, Room, Survey, NoCell, Short, Kind, Length, Full, Slice, Kindless, Work, Start, Places, Tally}
 use Rattle.sheet.specs.declared.Reply.{Reply}
 use Rattle.sheet.specs.declared.Reply.the-variants.{Done, Counted, Refused, RefusedAt}
 use Rattle.sheet.proofs.Refusal.{parts, make}
@@ -47,6 +47,8 @@ number-finds Slice = refl
 number-finds Kindless = refl
 number-finds Work = refl
 number-finds Start = refl
+number-finds Places = refl
+number-finds Tally = refl
 
 -- no refusal has the number 0
 pub number-not-0 : (r : Refusal) → eqb (number r) 0 ≡ false

@@ -78,6 +78,10 @@ pub enum Refusal {
     Work,
     // 18: the start of a fill is off the sheet.
     Start,
+    // 19: a tally has not one place for each row.
+    Places,
+    // 20: a tally is wrong.
+    Tally,
 }
 
 impl Refusal {
@@ -101,6 +105,8 @@ impl Refusal {
             Refusal::Kindless => 16,
             Refusal::Work => 17,
             Refusal::Start => 18,
+            Refusal::Places => 19,
+            Refusal::Tally => 20,
         }
     }
 }
