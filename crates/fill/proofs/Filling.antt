@@ -18,8 +18,9 @@ use Rattle.sheet.specs.declared.Shape.{Shape}
 use Rattle.sheet.proofs.Cells.{on-sheet}
 use Rattle.sheet.proofs.Draws.{keeps, paints}
 use Rattle.sheet.proofs.Lent.{if-sheet}
-use Rattle.fill.specs.Fill.{fillAnswer, Fills}
-use Rattle.fill.specs.Inner.{indexOf, Flooded}
+use Rattle.sheet.proofs.Limits.{fits-sheet}
+use Rattle.fill.specs.Fill.{fillAnswer}
+use Rattle.fill.specs.Inner.{indexOf, FloodedIn, FillsPieces}
 
 -- a number below 0, one from the size on, and one between
 pub index-below : (z : ℤ) (size : ℕ) → 0 < dn z → size ≡ indexOf z size
@@ -89,18 +90,33 @@ module _ (k : Shape) (a : Cell) (r : ℕ) where
   off-row e f = row-off left right top bottom (index-none (a .y) (k .height) r e f)
 
 -- a refused fill
-pub fill-refused : {k : Shape} {a : Cell} {b ink p : ℕ} {s : List ℕ} {r : Answer} → isDone r ≡ false → fillAnswer k a p (λ (c : Cell). false) (length s) ≡ r
-    → Fills k a b ink p s r s
-fill-refused {s = s} {r} e f =
-    record { territory = λ (c : Cell). false; decides = λ d. absurd (true≢false (sym d ∙ e)); draws = keeps _ s r e f }
+pub pieces-refused : {k : Shape} {a : Cell} {b ink p t : ℕ} {s q : List ℕ} {r r′ : Answer} → isDone r ≡ false → fillAnswer k a p (λ (c : Cell). false) (length s) ≡ r
+    → r′ ≡ r → t ≡ 0 → FillsPieces k a b ink p s r′ s q t
+pieces-refused {s = s} {r = r} {r′} e f g z =
+    let d : isDone r′ ≡ false = ap isDone g ∙ e in
+    record {
+      fills = record { territory = λ (c : Cell). false; decides = λ h. absurd (true≢false (sym h ∙ d)); draws = keeps _ s r′ d (f ∙ sym g) };
+      rows = record { some = λ j l. absurd (omega arith); all = λ x y m. absurd (true≢false (sym (m .marked))) };
+      few = omega arith;
+      high = λ l. absurd (omega arith);
+      refused = λ h. z;
+    }
 
 -- a fill that is done
-pub fill-done : {k : Shape} {a : Cell} {b ink p x y n : ℕ} {s s′ : List ℕ} → fits k (length s) ≡ true → k .width * k .height ≤ p → x < k .width → y < k .height
-    → a ≡ cellOf x y → Flooded k b ink x y s n s′ → Fills k a b ink p s (done (pos n ∷ [])) s′
+pub pieces-done : {k : Shape} {a : Cell} {b ink p x y n t : ℕ} {s s′ q : List ℕ} → fits k (length s) ≡ true → k .width * k .height ≤ p → x < k .width → y < k .height
+    → a ≡ cellOf x y → FloodedIn k b ink x y s n s′ q t → t ≤ length q → FillsPieces k a b ink p s (done (pos n ∷ [])) s′ q t
 unfolding fillAnswer
-fill-done {k} {a} {b} {ink} {p} {x} {y} {n} {s} {s′} f room l m e F =
+pieces-done {k} {a} {b} {ink} {p} {x} {y} {n} {t} {s} {s′} f room l m e F few =
+    let G = F .flooded in
     rw e (record {
-      territory = F .test;
-      decides = λ d. F .decides;
-      draws = paints _ s (done (pos n ∷ [])) s′ refl (simp (if-sheet k (length s) f, le-leb (k .width * k .height) p room, on-sheet k x y l m, F .number)) (F .paints);
+      fills =
+          record {
+            territory = G .test;
+            decides = λ d. G .decides;
+            draws = paints _ s (done (pos n ∷ [])) s′ refl (simp (if-sheet k (length s) f, le-leb (k .width * k .height) p room, on-sheet k x y l m, G .number)) (G .paints);
+          };
+      rows = F .rows;
+      few = few;
+      high = λ u. fits-sheet k s f .high;
+      refused = λ d. absurd (true≢false d);
     })

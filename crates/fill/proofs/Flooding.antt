@@ -7,6 +7,7 @@ use native.Mathlib.Omega.{arith}
 use native.Mathlib.Decide.{ℕ-discrete, decLe, decLt}
 use borrow.Author.Tests.{eq-eqb, ne-eqb, eqb-true, eqb-false}
 use lib.Dec.{eqb}
+use lib.IntN.{natAbs}
 use lib.ListN.{length, getD}
 use lib.Seq.{ext-getD}
 use Rattle.laws.proofs.Below.{count-sum}
@@ -19,7 +20,7 @@ use Rattle.sheet.proofs.Count.{cells-most}
 use Rattle.sheet.proofs.Limits.{sheet-fits}
 use Rattle.sheet.proofs.Paint.{held-cell, paint-byte, paint-length}
 use Rattle.fill.specs.Territory.{Side, Open, Reach, here, step, Territory}
-use Rattle.fill.specs.Inner.{InkedRun, rowOf, leftOf, rightOf, Throughout, total, spot, Shut, opens, Ready, Reached, Queue, Grown, Walked, Settled, Flooded}
+use Rattle.fill.specs.Inner.{InkedRun, rowOf, leftOf, rightOf, Throughout, total, spot, Shut, opens, Ready, Reached, Queue, Grown, Walked, Settled, Flooded, FloodedIn}
 use Rattle.fill.proofs.Pieces.{total-none}
 use Rattle.fill.proofs.Reaching.{reach-open}
 use Rattle.fill.proofs.Rows.{of-side, open-cell}
@@ -215,7 +216,7 @@ module _ {k : Shape} {b ink x y : ℕ} {s q s₂ q₂ : List ℕ} {t₂ : ℕ} {
           old none (yes f) (no g) = let z = Q .from n g f in absurd (none (z .0) (z .2) (z .1) (z .3) (z .4) (z .5))
           old none (no f) g = Q .same n f
 
-  pub flooded : Flooded k b ink x y s (total q₂ t₂) s₃
+  flooded : Flooded k b ink x y s (total q₂ t₂) s₃
   flooded =
       record {
         test = test;
@@ -224,4 +225,21 @@ module _ {k : Shape} {b ink x y : ℕ} {s q s₂ q₂ : List ℕ} {t₂ : ℕ} {
         paints =
             ext-getD 0 s₃ (paint k ink test s) (P .size ∙ W .grown .sheet-size ∙ sym (paint-length k ink test s))
             (λ n l. byte n ∙ sym (paint-byte k ink test s n (omega (arith, P .size, W .grown .sheet-size))));
+      }
+
+  -- and it is in the rows of the pieces
+  pub flooded-in : FloodedIn k b ink x y s (total q₂ t₂) s₃ q₂ t₂
+  unfolding place flooded
+  flooded-in =
+      record {
+        flooded = flooded;
+        rows =
+            record {
+              some = λ j l.
+                  let w = W .on j l in
+                  let u = leftOf (getD q₂ j 0) in
+                  let R = Q .into j l u (omega arith) (omega arith) in
+                  (u, record { column = omega (arith, w .1); row = w .0; marked = is-newly (cellOf u (rowOf (getD q₂ j 0))) (reach-open (R .reach)) (R .marked) });
+              all = λ u v m. let F = found (cellOf u v) (m .marked) in (F .piece, F .below, ap (λ (c : Cell). natAbs (c .y)) (sym (F .is)));
+            };
       }

@@ -12,6 +12,7 @@ pub mod Territories
 pub mod Order
 pub mod Pitch
 pub mod Sides
+pub mod Spanning
 pub mod Lines
 pub mod Rings
 pub mod Crossing

@@ -8,10 +8,13 @@ use lib.IntN.{ℤ, pos, natAbs}
 use lib.ListN.{length, getD}
 use lib.Signed.{leZ, ltZ}
 use Rattle.sheet.specs.Sheet.{place, cellOf, cellsOn, paint}
+use Rattle.sheet.specs.Repaint.{Set}
+use Rattle.sheet.specs.Reply.{Answer, isDone}
 use Rattle.sheet.specs.Inner.{Sheet}
 use Rattle.sheet.specs.declared.Cell.{Cell}
 use Rattle.sheet.specs.declared.Shape.{Shape}
 use Rattle.fill.specs.Territory.{Reach, Territory}
+use Rattle.fill.specs.Fill.{Fills}
 
 -- a number as a column or a row of the sheet; the size, for one that is none
 unfoldable pub indexOf : ℤ → ℕ → ℕ
@@ -181,3 +184,29 @@ pub record Flooded (k : Shape) (b ink x y : ℕ) (s : List ℕ) (n : ℕ) (s′ 
   pub decides : Territory k b s (cellOf x y) test
   pub number : n ≡ cellsOn k test
   pub paints : s′ ≡ paint k ink test s
+
+-- each of the first t pieces has a cell of the figure in its row, and each of the figure's cells on the sheet is in the row of one
+pub record InRows (k : Shape) (figure : Cell → Bool) (q : List ℕ) (t : ℕ) : Type 0 where
+  pub some : (j : ℕ) → j < t → (x : ℕ) × Set k figure x (rowOf (getD q j 0))
+  pub all : (x y : ℕ) → Set k figure x y → (j : ℕ) × (j < t) × (rowOf (getD q j 0) ≡ y)
+
+-- the territory of cell (x, y) has its ink, and n cells, and is in the rows of t pieces
+pub record FloodedIn (k : Shape) (b ink x y : ℕ) (s : List ℕ) (n : ℕ) (s′ q′ : List ℕ) (t′ : ℕ) : Type 0 where
+  pub flooded : Flooded k b ink x y s n s′
+  pub rows : InRows k (flooded .test) q′ t′
+
+-- the rows of the first t pieces: from top to before bottom, and from 4,096 to 0 where there is none
+pub record Spans (q : List ℕ) (t top bottom : ℕ) : Type 0 where
+  pub none : t ≡ 0 → (top ≡ 4096) × (bottom ≡ 0)
+  pub between : (j : ℕ) → j < t → (top ≤ rowOf (getD q j 0)) × (rowOf (getD q j 0) < bottom)
+  pub first : 0 < t → (j : ℕ) × (j < t) × (rowOf (getD q j 0) ≡ top)
+  pub last : 0 < t → (j : ℕ) × (j < t) × (rowOf (getD q j 0) + 1 ≡ bottom)
+
+-- a fill, and the pieces in whose rows it is: none, where it is refused
+pub record FillsPieces (k : Shape) (start : Cell) (boundary ink places : ℕ)
+    (lent : List ℕ) (reply : Answer) (bytes q : List ℕ) (t : ℕ) : Type 0 where
+  pub fills : Fills k start boundary ink places lent reply bytes
+  pub rows : InRows k (fills .territory) q t
+  pub few : t ≤ length q
+  pub high : 0 < t → k .height ≤ 4096
+  pub refused : isDone reply ≡ false → t ≡ 0

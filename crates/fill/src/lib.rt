@@ -6,12 +6,13 @@ ghost use Prim.Native.Nat.{_+_, _-_, _*_, _/_, _<_, _≤_};
 ghost use lib.ListN.{length, getD};
 ghost use Rattle.sheet.specs.Reply.{told};
 ghost use Rattle.sheet.specs.Inner.{Sheet};
-ghost use Rattle.fill.specs.Fill.{Fills, Spares};
-ghost use Rattle.fill.specs.Inner.{indexOf, total, Shut, Ready, AllOnSheet, Takes, Scanned, rowBeside, Strips, Walked, Settled, Flooded};
+ghost use Rattle.fill.specs.Fill.{Fills, FillsRows, Spares};
+ghost use Rattle.fill.specs.Inner.{indexOf, total, Shut, Ready, AllOnSheet, Takes, Scanned, rowBeside, Strips, Walked, Settled, FloodedIn, FillsPieces};
 
 mod ink;
 mod queue;
 mod search;
+mod span;
 
 use ink::ink_run;
 use queue::queue;
@@ -21,6 +22,7 @@ use sheet::Cell;
 use sheet::Refusal;
 use sheet::Reply;
 use sheet::Shape;
+use span::rows_of;
 
 // The one or the other.
 fn chosen(first: bool, a: u8, b: u8) -> u8
@@ -198,7 +200,13 @@ fn settle(sheet: &mut [u8], work: &[u32], count: usize, shape: Shape, ink: u8) -
     cells
 }
 
-// Fills the territory of a cell of the sheet, and tells how many cells it has.
+// What a territory came to: its cells, and the pieces of the queue that they are in.
+struct Amount {
+    cells: usize,
+    pieces: usize,
+}
+
+// Fills the territory of a cell of the sheet.
 fn flood(
     sheet: &mut [u8],
     work: &mut [u32],
@@ -207,13 +215,24 @@ fn flood(
     column: usize,
     boundary: u8,
     territory: u8,
-) -> usize
+) -> Amount
     requires { ⌜ Ready shape boundary (now sheet) (now work) 0 ⌝ }
     requires { ⌜ (row < shape .height) × (column < shape .width) ⌝ }
-    ensures { λ r. ⌜ Flooded shape boundary territory column row (now (sheet .entry)) r (now (sheet .exit)) ⌝ }
+    ensures { λ r. ⌜ FloodedIn shape boundary territory column row (now (sheet .entry)) (r .cells)
+        (now (sheet .exit)) (now (work .exit)) (r .pieces) ⌝ }
+    ensures { λ r. ⌜ r .pieces ≤ length (now (work .exit)) ⌝ }
 {
-    let tail = walk(sheet, work, shape, row, column, boundary);
-    settle(sheet, work, tail, shape, territory)
+    let pieces = walk(sheet, work, shape, row, column, boundary);
+    let cells = settle(sheet, work, pieces, shape, territory);
+    Amount { cells, pieces }
+}
+
+// What came of a fill that tells its rows: the reply, and the rows from top to before bottom; from 4,096, which no sheet has, to 0
+// where it set no cell.
+pub struct Filled {
+    pub reply: Reply,
+    pub top: u32,
+    pub bottom: u32,
 }
 
 // A column or a row of the sheet; its size for a number that is none.
@@ -228,6 +247,64 @@ fn index(z: i32, size: u32) -> u32
         return size;
     }
     at
+}
+
+// What came of a fill: the reply, and the pieces of the queue, none where it is refused.
+struct InPieces {
+    reply: Reply,
+    count: usize,
+}
+
+// A fill that set no cell.
+fn unfilled(reply: Reply) -> InPieces
+    ensures { λ r. ⌜ (told (r .reply) ≡ told reply) × (r .count ≡ 0) ⌝ }
+{
+    InPieces { reply, count: 0 }
+}
+
+// Fills the territory of a cell, and tells its pieces.
+fn fill_pieces(
+    sheet: &mut [u8],
+    shape: Shape,
+    start: Cell,
+    boundary: u8,
+    territory: u8,
+    work: &mut [u32],
+) -> InPieces
+    ensures { λ r. ⌜ FillsPieces shape start boundary territory (length (now (work .entry)))
+        (now (sheet .entry)) (told (r .reply)) (now (sheet .exit)) (now (work .exit)) (r .count) ⌝ }
+    ensures { λ r. ⌜ Spares (told (r .reply)) (now (work .entry)) (now (work .exit)) ⌝ }
+{
+    let tested = sheet::check(shape, sheet.len());
+    if !tested.is_done() {
+        return unfilled(tested);
+    }
+    let width = shape.width;
+    let height = shape.height;
+    if work.len() < width as usize * height as usize {
+        return unfilled(Reply::Refused(Refusal::Work));
+    }
+    let column = index(start.x, width);
+    if column == width {
+        return unfilled(Reply::Refused(Refusal::Start));
+    }
+    let row = index(start.y, height);
+    if row == height {
+        return unfilled(Reply::Refused(Refusal::Start));
+    }
+    let flood = flood(
+        sheet,
+        work,
+        shape,
+        row as usize,
+        column as usize,
+        boundary,
+        territory,
+    );
+    InPieces {
+        reply: Reply::Counted(flood.cells),
+        count: flood.pieces,
+    }
 }
 
 // Fills the territory of a cell: sets to the territory ink exactly the cells that can be reached from it by steps to a side
@@ -245,30 +322,29 @@ pub fn fill(
         (now (sheet .entry)) (told r) (now (sheet .exit)) ⌝ }
     ensures { λ r. ⌜ Spares (told r) (now (work .entry)) (now (work .exit)) ⌝ }
 {
-    let tested = sheet::check(shape, sheet.len());
-    if !tested.is_done() {
-        return tested;
+    let filled = fill_pieces(sheet, shape, start, boundary, territory, work);
+    filled.reply
+}
+
+// The same, and tells besides in which rows it set cells.
+pub fn fill_rows(
+    sheet: &mut [u8],
+    shape: Shape,
+    start: Cell,
+    boundary: u8,
+    territory: u8,
+    work: &mut [u32],
+) -> Filled
+    ensures { λ r. ⌜ FillsRows shape start boundary territory (length (now (work .entry)))
+        (now (sheet .entry)) (told (r .reply)) (r .top) (r .bottom) (now (sheet .exit)) ⌝ }
+    ensures { λ r. ⌜ Spares (told (r .reply)) (now (work .entry)) (now (work .exit)) ⌝ }
+{
+    let filled = fill_pieces(sheet, shape, start, boundary, territory, work);
+    let reply = filled.reply;
+    let rows = rows_of(work, filled.count);
+    Filled {
+        reply,
+        top: rows.top,
+        bottom: rows.bottom,
     }
-    let width = shape.width;
-    let height = shape.height;
-    if work.len() < width as usize * height as usize {
-        return Reply::Refused(Refusal::Work);
-    }
-    let column = index(start.x, width);
-    if column == width {
-        return Reply::Refused(Refusal::Start);
-    }
-    let row = index(start.y, height);
-    if row == height {
-        return Reply::Refused(Refusal::Start);
-    }
-    Reply::Counted(flood(
-        sheet,
-        work,
-        shape,
-        row as usize,
-        column as usize,
-        boundary,
-        territory,
-    ))
 }

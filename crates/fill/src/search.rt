@@ -112,7 +112,7 @@ pub(crate) fn back(sheet: &[u8], from: usize, to: usize, ink: u8) -> usize
 }
 
 // The greater of two.
-fn greater(a: usize, b: usize) -> usize
+pub(crate) fn greater(a: usize, b: usize) -> usize
     ensures { λ r. ⌜ r ≡ a + (b - a) ⌝ }
 {
     if a < b { b } else { a }

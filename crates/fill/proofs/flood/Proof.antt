@@ -2,7 +2,7 @@
 use native.Mathlib.Omega.{arith}
 use borrow.Author.Needs.{needs}
 use Rattle.fill.proofs.Growing.{ready-again}
-use Rattle.fill.proofs.Flooding.{flooded, pieces-most}
+use Rattle.fill.proofs.Flooding.{flooded-in, pieces-most}
 use Rattle.fill.proofs.flood.Statement.{statement}
 use Rattle.fill.proofs.flood.Tie as tie
 
@@ -29,7 +29,8 @@ returns c =
     let at-walk = at-settle .before .before .before .before .before .before .before in
     let e = at-walk .before .before .before .before .before in
     let p = at-settle .settle .ensures in
-    rw (p .0) (flooded (e .pre .0) (e .pre .1 .0) (e .pre .1 .1) (at-walk .walk .ensures) (p .1))
+    let r = ready-again (e .pre .0) (at-walk .walk .ensures .grown) in
+    (rw (p .0) (flooded-in (e .pre .0) (e .pre .1 .0) (e .pre .1 .1) (at-walk .walk .ensures) (p .1)), omega (arith, r .room))
 
 pub flood-spec : {M : Type 1} → statement M
 flood-spec = tie.close (tie.spec walk-requires settle-requires same-length same-length-2 returns)
