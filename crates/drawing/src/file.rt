@@ -35,7 +35,7 @@ fn draw_records(sheet: &mut [u8], shape: Shape, file: &[u8]) -> Rectangle
 }
 
 // A reply in the form of a file's: with one value, 0 where it has none.
-fn of_file(reply: Reply) -> Reply
+pub fn of_file(reply: Reply) -> Reply
     ensures { λ r. ⌜ told r ≡ ofFile (told reply) ⌝ }
 {
     match reply {
