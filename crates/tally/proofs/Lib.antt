@@ -1,0 +1,6 @@
+pub mod Inked
+pub mod Rows
+pub mod Painted
+pub mod Tests
+pub mod Kept
+pub mod Beside

@@ -1,0 +1,3 @@
+pub mod Inner
+pub mod Kept
+pub mod Tally
