@@ -89,7 +89,8 @@ module _ (d : Drawing) (lent rows : List ℕ) (reply : Answer) (bytes after : Li
       by false e = ap (λ (r : List ℕ). getD r y 0) (same-list e)
 
   -- A drawing that is done only beside a list that is right, on a sheet, keeps it.
-  pub tally-kept : (isDone reply ≡ true → (fits (d .shape) (length lent) ≡ true) × Right (d .shape) lent rows) → Kept d lent rows reply bytes after
+  pub tally-kept : (isDone reply ≡ true → (fits (d .shape) (length lent) ≡ true) × Right (d .shape) lent rows)
+      → Kept (d .shape) (d .figures) lent rows reply bytes after
   tally-kept only =
       record {
         right = keeps-right;

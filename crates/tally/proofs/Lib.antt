@@ -4,3 +4,4 @@ pub mod Painted
 pub mod Tests
 pub mod Kept
 pub mod Beside
+pub mod Every

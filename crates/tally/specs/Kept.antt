@@ -31,15 +31,15 @@ pub data Clear (k : Shape) (y : ℕ) : (figures : List Inked) → Type 0 where
   none : Clear k y []
   also : (f : Inked) (fs : List Inked) → ((x : ℕ) → x < k .width → f .figure (cellOf x y) ≡ false) → Clear k y fs → Clear k y (f ∷ fs)
 
-pub record Kept (d : Drawing) (lent rows : List ℕ) (reply : Answer) (bytes after : List ℕ) : Type 0 where
+-- What is shown of a drawing or a fill of these figures beside a list.
+pub record Kept (k : Shape) (figures : List Inked) (lent rows : List ℕ) (reply : Answer) (bytes after : List ℕ) : Type 0 where
   -- a list that is right is right afterwards, drawn or refused
-  pub right : Right (d .shape) lent rows → Right (d .shape) bytes after
+  pub right : Right k lent rows → Right k bytes after
   -- and what counting afresh leaves, whatever the list held that was lent for it
-  pub afresh : Right (d .shape) lent rows → (other : List ℕ) (told : Answer) (counted : List ℕ)
-      → Counts (d .shape) bytes other told counted → isDone told ≡ true → after ≡ counted
+  pub afresh : Right k lent rows → (other : List ℕ) (told : Answer) (counted : List ℕ)
+      → Counts k bytes other told counted → isDone told ≡ true → after ≡ counted
   -- a wrong one is refused, and nothing is set
-  pub wrong : (Right (d .shape) lent rows → ⊥) → (isDone reply ≡ false) × (bytes ≡ lent) × (after ≡ rows)
+  pub wrong : (Right k lent rows → ⊥) → (isDone reply ≡ false) × (bytes ≡ lent) × (after ≡ rows)
   -- a row that is not drawn on keeps its number, and so does each outside the rectangle over the figures
-  pub undrawn : (y : ℕ) → Clear (d .shape) y (d .figures) → getD after y 0 ≡ getD rows y 0
-  pub outside : (y : ℕ) → (y < boxAll (d .shape) (d .figures) .top) ⊎ (boxAll (d .shape) (d .figures) .bottom ≤ y)
-      → getD after y 0 ≡ getD rows y 0
+  pub undrawn : (y : ℕ) → Clear k y figures → getD after y 0 ≡ getD rows y 0
+  pub outside : (y : ℕ) → (y < boxAll k figures .top) ⊎ (boxAll k figures .bottom ≤ y) → getD after y 0 ≡ getD rows y 0
