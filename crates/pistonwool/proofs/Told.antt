@@ -25,7 +25,7 @@ use Rattle.sheet.specs.declared.repaint.Rectangle.{Rectangle}
 use Rattle.sheet.proofs.Lent.{sheet-cases}
 use Rattle.sheet.proofs.Unique.{number-not-0}
 use Rattle.line.specs.Listing.{listAnswer, ListsInto}
-use Rattle.fill.specs.Fill.{fillAnswer, Fills, Spares}
+use Rattle.fill.specs.Fill.{fillDrawing, FillsAs, Spares}
 use Rattle.record.specs.Writing.{writeAnswer, Writes}
 use Rattle.record.specs.Rescue.{Lent, Rescues}
 use Rattle.record.proofs.Written.{writes-as}
@@ -51,7 +51,7 @@ sheet-tells {P} k n a h = sheet-cases k n (Tells P) a refused h
 abbrev pub None : List ℤ → Type 0
 None v = v ≡ []
 
-number-told : (a : Answer) → Tells None a → a ≡ numbered (a .number)
+pub number-told : (a : Answer) → Tells None a → a ≡ numbered (a .number)
 number-told _ (Tells.refused r) = refl
 number-told _ (Tells.done v e) = ap reply.done e
 
@@ -129,7 +129,8 @@ module _ (d : Drawing) (s t : List ℕ) (a : Answer) (h : Draws d s a t) (p : Te
       (into d s t a h (counted n v) before after (q .0) f, q .1)
 
 -- the same of a fill
-module _ {k : Shape} {a : Cell} {b i p : ℕ} {s t : List ℕ} {r : Answer} (h : Fills k a b i p s r t) (q : Tells One (fillAnswer k a p (h .territory) (length s))) where
+module _ {made : Drawing → Drawing} {k : Shape} {a : Cell} {b i p : ℕ} {s t : List ℕ} {r : Answer} (h : FillsAs made k a b i p s r t)
+    (q : Tells One (made (fillDrawing k a i (h .territory) p) .answer (length s))) where
   fill-told : Tells One r
   fill-told = subst (Tells One) (sym (h .draws .tells)) q
 
@@ -137,10 +138,10 @@ module _ {k : Shape} {a : Cell} {b i p : ℕ} {s t : List ℕ} {r : Answer} (h :
   fills-small = one-small r fill-told
 
   pub fills-count : {w w′ : List ℕ} (n v before : ℕ) (c : Cell) → a ≡ c → Spares r w w′ → (n ≡ r .number) × (v ≡ settled r (valueOf r) before)
-      → Fills k c b i p s (counted n v) t × (Keeps n before v × Spares (counted n v) w w′)
+      → FillsAs made k c b i p s (counted n v) t × (Keeps n before v × Spares (counted n v) w w′)
   fills-count {w} {w′} n v before c f spares e =
       let told = count-told r fill-told n v before (e .0) (e .1) in (
-        subst (λ (d : Cell). Fills k d b i p s (counted n v) t) f (subst (λ (o : Answer). Fills k a b i p s o t) (told .0) h),
+        subst (λ (d : Cell). FillsAs made k d b i p s (counted n v) t) f (subst (λ (o : Answer). FillsAs made k a b i p s o t) (told .0) h),
         (told .1, subst (λ (o : Answer). Spares o w w′) (told .0) spares),
       )
 

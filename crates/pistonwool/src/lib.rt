@@ -1,4 +1,5 @@
-// What C and Rust link: the drawings on numbers and slices, the pen, writing records and rescuing a damaged file.
+// What C and Rust link: the drawings on numbers and slices, with a tally or without, the pen, writing records and rescuing a
+// damaged file.
 // Each answers a number of the table; but a pen that is asked answers 1 for a cell and 0 for finished.
 ghost use mathlib.Core.Path.{_≡_};
 ghost use Prim.Native.Nat.{_-_, _<_};
@@ -10,6 +11,7 @@ mod file;
 mod metres;
 mod pen;
 mod rescuing;
+mod tallied;
 mod territory;
 mod writing;
 
@@ -26,6 +28,15 @@ pub use pen::pw_pen_next;
 pub use rescuing::pw_rescue;
 use sheet::Drawn;
 use sheet::Reply;
+pub use tallied::pw_cubic_tallied;
+pub use tallied::pw_curve_tallied;
+pub use tallied::pw_ellipse_metres_tallied;
+pub use tallied::pw_ellipse_tallied;
+pub use tallied::pw_file_tallied;
+pub use tallied::pw_fill_tallied;
+pub use tallied::pw_line_metres_tallied;
+pub use tallied::pw_line_tallied;
+pub use tallied::pw_tally;
 pub use territory::pw_fill;
 pub use writing::pw_write_circle;
 pub use writing::pw_write_cubic;

@@ -14,8 +14,8 @@ use Rattle.sheet.specs.Inner.{fits}
 use Rattle.sheet.specs.declared.Shape.{Shape}
 use Rattle.sheet.proofs.Limits.{fits-sheet}
 use Rattle.sheet.proofs.Places.{length-by, getD-by}
-use Rattle.tally.specs.Tally.{rowCount, tallyOf, right, ifPlaces}
-use Rattle.tally.specs.Kept.{Right, Counts, Tallies, Clear, Kept}
+use Rattle.tally.specs.Tally.{rowCount, tallyOf, right, Counts}
+use Rattle.tally.specs.Kept.{Right, Tallies, Clear, Kept}
 use Rattle.tally.proofs.Painted.{clear-stays, outside-clear}
 use Rattle.tally.proofs.Rows.{right-all, right-at}
 use Rattle.tally.proofs.Tests.{done-places}

@@ -6,20 +6,15 @@ use mathlib.Core.Bool.{true, false}
 use mathlib.Core.Logic.{_⊎_}
 use lib.ListN.{length, getD}
 use Rattle.sheet.specs.Sheet.{cellOf}
-use Rattle.sheet.specs.Reply.{Answer, done, isDone}
+use Rattle.sheet.specs.Reply.{Answer, isDone}
 use Rattle.sheet.specs.Drawing.{Inked, boxAll, Drawing, Paints}
 use Rattle.sheet.specs.declared.Shape.{Shape}
-use Rattle.tally.specs.Tally.{rowCount, ifPlaces, recounted}
+use Rattle.tally.specs.Tally.{rowCount, recounted, Counts}
 
 -- A list is right where it has one place for each row, and each holds that row's number.
 pub record Right (k : Shape) (s rows : List ℕ) : Type 0 where
   pub places : length rows ≡ k .height
   pub numbers : (y : ℕ) → y < k .height → getD rows y 0 ≡ rowCount k s y
-
--- a sheet counted afresh: the reply, and the list
-pub record Counts (k : Shape) (s rows : List ℕ) (reply : Answer) (after : List ℕ) : Type 0 where
-  pub tells : reply ≡ ifPlaces k (length s) (length rows) (done [])
-  pub counts : after ≡ recounted k reply s rows
 
 -- a drawing or a fill with a list: the reply, the bytes and the list
 pub record Tallies (d : Drawing) (lent rows : List ℕ) (reply : Answer) (bytes after : List ℕ) : Type 0 where

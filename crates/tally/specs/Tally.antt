@@ -1,12 +1,13 @@
 -- Document 02, K14: a tally for each row, kept in a list beside the sheet.
 use Prim.Native.Nat.{ℕ}
-use mathlib.Core.List.{List}
+use mathlib.Core.Path.{_≡_}
+use mathlib.Core.List.{List, []}
 use mathlib.Core.Bool.{Bool, not}
 use lib.Dec.{eqb}
 use lib.ListN.{length, getD}
 use Rattle.laws.specs.Below.{any, count}
 use Rattle.sheet.specs.Sheet.{place, cellOf, byPlace}
-use Rattle.sheet.specs.Reply.{Answer, unless, settled}
+use Rattle.sheet.specs.Reply.{Answer, done, unless, settled}
 use Rattle.sheet.specs.Drawing.{Drawing, ifSheet}
 use Rattle.sheet.specs.declared.Shape.{Shape}
 use Rattle.sheet.specs.declared.Refusal.the-variants.{Places, Tally}
@@ -34,6 +35,11 @@ ifTally k n lent rows next = ifPlaces k n (length rows) (unless (right k lent ro
 -- the list after an answer: right for the bytes as they are left, or untouched by a refusal
 abbrev pub recounted : Shape → Answer → List ℕ → List ℕ → List ℕ
 recounted k a s rows = settled a (tallyOf k s rows) rows
+
+-- Counting afresh: 1, 15, 19, else 0, and the list is right whatever it held.
+pub record Counts (k : Shape) (s rows : List ℕ) (reply : Answer) (after : List ℕ) : Type 0 where
+  pub tells : reply ≡ ifPlaces k (length s) (length rows) (done [])
+  pub counts : after ≡ recounted k reply s rows
 
 -- The drawing beside a list: 1, 15, 19, 20, then all others as before, each told in a form.
 abbrev pub beside : (Answer → Answer) → List ℕ → List ℕ → Drawing → Drawing

@@ -4,7 +4,7 @@ ghost use mathlib.Core.List.{[]};
 ghost use Prim.Native.Nat.{_≤_};
 ghost use lib.ListN.{length};
 ghost use Rattle.sheet.specs.Reply.{told, done};
-ghost use Rattle.tally.specs.Tally.{right, ifPlaces, ifTally, recounted};
+ghost use Rattle.tally.specs.Tally.{right, ifPlaces, ifTally, Counts};
 ghost use Rattle.tally.specs.Inner.{Beside, countedRows};
 use crate::row::count_row;
 use sheet::Refusal;
@@ -75,8 +75,7 @@ pub fn check(sheet: &[u8], shape: Shape, rows: &[u32]) -> Reply
 
 // Counts the sheet afresh, whatever the list held.
 pub fn count(sheet: &[u8], shape: Shape, rows: &mut [u32]) -> Reply
-    ensures { λ r. ⌜ told r ≡ ifPlaces shape (length (now (sheet .entry))) (length (now (rows .entry))) (done []) ⌝ }
-    ensures { λ r. ⌜ now (rows .exit) ≡ recounted shape (told r) (now (sheet .entry)) (now (rows .entry)) ⌝ }
+    ensures { λ r. ⌜ Counts shape (now (sheet .entry)) (now (rows .entry)) (told r) (now (rows .exit)) ⌝ }
 {
     let tested = check_places(shape, sheet.len(), rows.len());
     if !tested.is_done() {

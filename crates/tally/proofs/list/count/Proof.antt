@@ -25,7 +25,7 @@ is-done-requires c κs = search needs
 returns : tie.Need-returns
 returns c =
     let e = no _ _ (c .before .is-done .ensures) (c .if1 .taken) in
-    (c .before .before .check-places .ensures, sym (simp e))
+    record { tells = c .before .before .check-places .ensures; counts = sym (simp e) }
 
 cast-count-rows : tie.Need-cast-count-rows
 cast-count-rows c = search needs
@@ -49,10 +49,11 @@ returns-2 : tie.Need-returns-2
 returns-2 c =
     let at-if1 = c .before .before .before .before in
     let a = at-if1 .before .before .before .before .before .args in
-    let f = fitted at-if1 in (
-      sym (if-places _ _ _ (f .0) (f .1) _),
-      c .before .before .count-rows .ensures ∙ counted-all (a .shape) _ _ (f .1),
-    )
+    let f = fitted at-if1 in
+    record {
+      tells = sym (if-places _ _ _ (f .0) (f .1) _);
+      counts = c .before .before .count-rows .ensures ∙ counted-all (a .shape) _ _ (f .1);
+    }
 
 pub count-spec : {M : Type 1} → statement M
 count-spec =
