@@ -11,13 +11,20 @@
  * also those that had the ink already; all four are 0 where the figure has no cell on the sheet. Of a curve it is the rectangle
  * over all its lines, of a file that over all its records (examples/repaint.c).
  *
+ * A tally is a list of 32-bit numbers kept beside a sheet, one place for each row from the top down: how many of the row's cells
+ * are nonzero. Padding never counts. pw_tally counts it afresh; the forms whose names end in _tallied keep it right
+ * (examples/tally.c). Such a form first counts the whole sheet, and refuses a list that is wrong before anything is set; then it
+ * draws as the form without a list does; then it counts again no more than the rows of the rectangle, after a fill no more than
+ * those of the sheet, and every other place keeps its number. So it costs a pass over the sheet: who keeps no list uses the
+ * forms without.
+ *
  * A window, a part of a larger sheet of this pitch that begins at (x, y) and is w by h, is a sheet too (examples/window.c):
  *     pw_line(sheet + (size_t)y * pitch + x, (size_t)pitch * h, w, h, pitch, ink, ...)
  * Its length counts its last row whole, so one that ends in the larger sheet's last row can be lent only if x is 0, or if x
  * more bytes follow the larger sheet.
  *
  * Every function but pw_pen_next answers a number of enum pw_reply. Any number other than PW_DONE is a refusal; a
- * refusal leaves every byte and every number that was lent as it was, but for the offset that pw_file tells.
+ * refusal leaves every byte and every number that was lent as it was, but for the offset that pw_file and pw_file_tallied tell.
  *
  * Pointers must not be null, not even with length 0, must point to as many elements as the length after them says, and
  * must not overlap.
@@ -32,7 +39,7 @@
 #include <stdint.h>
 
 /* the version of this header and of the library installed with it */
-#define PW_VERSION "0.4.0"
+#define PW_VERSION "0.4.1"
 
 #if SIZE_MAX != UINT64_MAX
 #error "Pistonwool is for 64-bit machines only"
@@ -42,9 +49,9 @@
 extern "C" {
 #endif
 
-/* What each number is given for. Where several apply, the first in this order: 1, 15; then for a fill 17, 18; for figures in
- * metres 6, 7; for a record 8, 16, 9, 10; then 2, 3, 4; 5 of a listing is last, and so is 11 of a record that is written; for a
- * rescue 11, 5. */
+/* What each number is given for. Where several apply, the first in this order: 1, 15; then with a tally 19, 20; then for a fill
+ * 17, 18; for figures in metres 6, 7; for a record 8, 16, 9, 10; then 2, 3, 4; 5 of a listing is last, and so is 11 of a record
+ * that is written; for a rescue 11, 5. */
 enum pw_reply {
     /* done */
     PW_DONE = 0,
@@ -77,7 +84,11 @@ enum pw_reply {
     /* a work slice with fewer than width x height places */
     PW_WORK = 17,
     /* a start off the sheet */
-    PW_START = 18
+    PW_START = 18,
+    /* a tally with more or fewer places than the sheet has rows */
+    PW_PLACES = 19,
+    /* a tally in which the number of a row is not that of its nonzero cells */
+    PW_TALLY = 20
 };
 
 /* Draws the line from (x0, y0) to (x1, y1). *cells is then its number of cells on the sheet. */
@@ -196,6 +207,45 @@ uint32_t pw_line_metres(uint8_t *sheet, size_t len, uint32_t width, uint32_t hei
 /* Draws the ellipse of semi-axes a along x and b along y about (x, y), and a circle, as pw_ellipse does. */
 uint32_t pw_ellipse_metres(uint8_t *sheet, size_t len, uint32_t width, uint32_t height, uint32_t pitch, uint8_t ink,
                            double east, double north, double size, double x, double y, double a, double b, uint32_t box[4]);
+
+/* The same with a tally beside the sheet. Its length, places, must be the height. */
+
+/* Counts a sheet afresh: whatever the tally held, it is then right. The sheet is only read. Never refused with PW_TALLY. */
+uint32_t pw_tally(const uint8_t *sheet, size_t len, uint32_t width, uint32_t height, uint32_t pitch,
+                  uint32_t *tally, size_t places);
+
+/* Draw as pw_line, pw_ellipse, pw_curve and pw_cubic do, and keep the tally right. */
+uint32_t pw_line_tallied(uint8_t *sheet, size_t len, uint32_t width, uint32_t height, uint32_t pitch,
+                         uint32_t *tally, size_t places, uint8_t ink,
+                         int32_t x0, int32_t y0, int32_t x1, int32_t y1, uint32_t *cells, uint32_t box[4]);
+uint32_t pw_ellipse_tallied(uint8_t *sheet, size_t len, uint32_t width, uint32_t height, uint32_t pitch,
+                            uint32_t *tally, size_t places, uint8_t ink,
+                            int32_t x, int32_t y, uint32_t a, uint32_t b, uint32_t box[4]);
+uint32_t pw_curve_tallied(uint8_t *sheet, size_t len, uint32_t width, uint32_t height, uint32_t pitch,
+                          uint32_t *tally, size_t places, uint8_t ink,
+                          int32_t x0, int32_t y0, int32_t x1, int32_t y1, int32_t x2, int32_t y2, uint32_t s, uint32_t box[4]);
+uint32_t pw_cubic_tallied(uint8_t *sheet, size_t len, uint32_t width, uint32_t height, uint32_t pitch,
+                          uint32_t *tally, size_t places, uint8_t ink,
+                          int32_t x0, int32_t y0, int32_t x1, int32_t y1, int32_t x2, int32_t y2, int32_t x3, int32_t y3,
+                          uint32_t s, uint32_t box[4]);
+
+/* Draws a record file as pw_file does, and keeps the tally right. *value is the offset 0 with 19 and 20, as with 1 and 15: they
+ * speak of the sheet and its tally. */
+uint32_t pw_file_tallied(uint8_t *sheet, size_t len, uint32_t width, uint32_t height, uint32_t pitch,
+                         uint32_t *tally, size_t places, const uint8_t *file, size_t n, uint64_t *value, uint32_t box[4]);
+
+/* Draw as pw_line_metres and pw_ellipse_metres do, and keep the tally right. */
+uint32_t pw_line_metres_tallied(uint8_t *sheet, size_t len, uint32_t width, uint32_t height, uint32_t pitch,
+                                uint32_t *tally, size_t places, uint8_t ink, double east, double north, double size,
+                                double x0, double y0, double x1, double y1, uint32_t *cells, uint32_t box[4]);
+uint32_t pw_ellipse_metres_tallied(uint8_t *sheet, size_t len, uint32_t width, uint32_t height, uint32_t pitch,
+                                   uint32_t *tally, size_t places, uint8_t ink, double east, double north, double size,
+                                   double x, double y, double a, double b, uint32_t box[4]);
+
+/* Fills a territory as pw_fill does, and keeps the tally right. The work slice has room for so many numbers. */
+uint32_t pw_fill_tallied(uint8_t *sheet, size_t len, uint32_t width, uint32_t height, uint32_t pitch,
+                         uint32_t *tally, size_t places, int32_t x, int32_t y, uint8_t boundary, uint8_t territory,
+                         uint32_t *work, size_t room, uint32_t *cells);
 
 #ifdef __cplusplus
 }
