@@ -1,5 +1,6 @@
 /* examples.c: the checked examples of document 01 that are not starred, those of rings with axes of 0, of cubics, of writing
- * records, of rescuing them and of rectangles to repaint, each by its words through the library; the last line counts. */
+ * records, of rescuing them, of rectangles to repaint and of tallies, each by its words through the library; the last line
+ * counts. */
 #include <stdio.h>
 #include <string.h>
 
@@ -420,6 +421,7 @@ int main(void) {
     writers();
     rescues();
     repaints();
+    tallies();
 
     printf("%d passed, %d failed\n", passed, failed);
     return failed != 0;

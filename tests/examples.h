@@ -16,5 +16,7 @@ uint32_t append(int kind, const int64_t *n, size_t len);
 
 /* the rectangles that drawings tell */
 void repaints(void);
+/* the tallies that are kept beside sheets */
+void tallies(void);
 
 #endif
