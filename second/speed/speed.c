@@ -131,11 +131,11 @@ static double pass(struct sheet *s, const struct way *way, const struct figure *
     return now() - begun;
 }
 
-static void told(double ns) {
-    if (ns < 0)
+static void told(double value, int digits) {
+    if (value < 0)
         printf(" | -");
     else
-        printf(" | %.2f", ns);
+        printf(" | %.*f", digits, value);
 }
 
 void row(const char *name, const char *unit, struct sheet *s, struct way *ways, size_t n, const struct figure *figures,
@@ -156,10 +156,12 @@ void row(const char *name, const char *unit, struct sheet *s, struct way *ways, 
         printf("-");
     if (s && s->pitch != s->side)
         printf(", pitch %u", s->pitch);
-    for (size_t w = 0; w < n; w++)
-        told(ways[w].best < 0 ? -1 : ways[w].best / (double)units);
+    for (size_t w = 0; w < n; w++) {
+        double ns = ways[w].best < 0 ? -1 : ways[w].best / (double)units;
+        told(ns, ns < 0.1 ? 3 : 2); /* a time below a tenth has a digit more */
+    }
     for (size_t w = 1; w <= BESIDE; w++)
-        told(ways[w].best < 0 ? -1 : ways[0].best / ways[w].best);
+        told(ways[w].best < 0 ? -1 : ways[0].best / ways[w].best, 2);
     printf(" |\n");
     fflush(stdout);
 }
@@ -392,5 +394,6 @@ int main(void) {
     }
     record_rows(n);
     rescue_row(n);
+    tally_rows(n); /* last, so that the random figures of all other rows stay what they were */
     return 0;
 }

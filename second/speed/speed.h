@@ -55,6 +55,8 @@ draw walk;
 draw by_rows;
 /* the same figures by the libraries of these names, where they were there to compile with */
 draw opencv, libgd;
+/* counts the nonzero cells of each row into the work slice, by OpenCV; the figure is none */
+draw opencv_tally;
 /* libgd draws on an image of its own */
 void libgd_begin(uint32_t side);
 void libgd_end(void);

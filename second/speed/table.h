@@ -26,4 +26,7 @@ void row(const char *name, const char *unit, struct sheet *s, struct way *ways, 
 /* the row of a damaged file that is rescued, with so many ways in it */
 void rescue_row(size_t n);
 
+/* the rows of sheets that are counted afresh, likewise */
+void tally_rows(size_t n);
+
 #endif
