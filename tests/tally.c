@@ -224,6 +224,10 @@ static void turns(void) {
     done("a file of two records", &file);
     holds("a file of two records", &file, rows);
     same("and its number of records", (long long)lent.value, 2);
+    filled = 0;
+    done("a file of no record", &file);
+    holds("a file of no record", &file, rows);
+    same("and its number of records", (long long)lent.value, 0);
 }
 
 void tallies(void) {

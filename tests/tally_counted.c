@@ -102,19 +102,28 @@ static void one_cell(uint32_t width) {
     same("one cell is counted wherever it is", n, width);
 }
 
-/* the largest sheet, with as much padding as there can be: each row has as many cells as its own number says */
+/* the largest sheet, with as much padding as there can be: each row has as many cells as its own number says, and a line through
+ * the last column gives each one more */
 static void largest(void) {
     enum { SIDE = 4096, FAR = 8192 };
     static uint8_t bytes[FAR * SIDE];
     static uint32_t list[SIDE];
-    uint32_t right = 0;
+    uint32_t counted = 0, drawn = 0, cells, box[4], last = SIDE - 1;
     memset(bytes, NOISE, sizeof bytes);
     for (size_t y = 0; y < SIDE; y++)
         memset(bytes + y * FAR + y, 0, SIDE - y);
     same("the largest sheet is counted", pw_tally(bytes, sizeof bytes, SIDE, SIDE, FAR, list, SIDE), PW_DONE);
     for (uint32_t y = 0; y < SIDE; y++)
-        right += list[y] == y;
-    same("row by row", right, SIDE);
+        counted += list[y] == y;
+    same("row by row", counted, SIDE);
+    same("a line on it keeps the list",
+         pw_line_tallied(bytes, sizeof bytes, SIDE, SIDE, FAR, list, SIDE, 1, last, 0, last, last, &cells, box), PW_DONE);
+    for (uint32_t y = 0; y < SIDE; y++)
+        drawn += list[y] == y + 1;
+    same("row by row", drawn, SIDE);
+    list[last]--;
+    same("a list that is one off in its last row is refused",
+         pw_line_tallied(bytes, sizeof bytes, SIDE, SIDE, FAR, list, SIDE, 1, last, 0, last, last, &cells, box), PW_TALLY);
 }
 
 void tally_counts(void) {
