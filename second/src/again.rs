@@ -92,3 +92,36 @@ fn narrowed(figure: &Figure) -> Cells {
 fn numbers<const N: usize>(points: &[Cell]) -> [i32; N] {
     std::array::from_fn(|i| if i % 2 == 0 { points[i / 2].0 } else { points[i / 2].1 } as i32)
 }
+
+#[cfg(test)]
+mod tests {
+    use super::*;
+    use crate::case::{Case, Job};
+    use crate::run::{sound, Room};
+    use crate::writer::{append, Writer};
+
+    /// A writer that leaves the count, which every sound file that has a record shows.
+    #[test]
+    fn every_sound_file_is_written_again() {
+        let right = Rules::document();
+        let writer = Writer {
+            append: |rules, buffer, ink, figure| append(rules, &mut copy(buffer), ink, figure),
+            ..right.writer
+        };
+        let wrong = Rules { writer, ..right };
+        let (mut room, mut written) = (Room::default(), 0);
+        for seed in 0..1000 {
+            for case in [Case::file(seed), Case::damaged(seed)] {
+                let Job::File(_, file) = &case.job else { unreachable!() };
+                let due = sound(&right, file) && !file.is_empty();
+                assert_eq!(room.compare(&wrong, &case).is_err(), due, "{case}");
+                written += u32::from(due);
+            }
+        }
+        assert!(written >= 200, "only {written} files were written again");
+    }
+
+    fn copy<'a>(buffer: &'a mut Buffer) -> Buffer<'a> {
+        Buffer { bytes: buffer.bytes, filled: buffer.filled }
+    }
+}

@@ -51,6 +51,13 @@ impl Guarded {
         // bytes are a T.
         unsafe { std::slice::from_raw_parts_mut(self.start.add(skipped).cast(), count) }
     }
+
+    /// A buffer that holds a copy of these numbers and touches one of the guards.
+    pub fn lend_copy<T: Copy + Plain>(&mut self, held: &[T], against: Against) -> &mut [T] {
+        let lent = self.lend(held.len(), against);
+        lent.copy_from_slice(held);
+        lent
+    }
 }
 
 impl Drop for Guarded {

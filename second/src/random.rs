@@ -30,6 +30,11 @@ impl Random {
         (0..count).map(|_| self.number() as i32).collect()
     }
 
+    /// So many numbers of 32 bits without a sign.
+    pub fn unsigned(&mut self, count: usize) -> Vec<u32> {
+        (0..count).map(|_| self.number() as u32).collect()
+    }
+
     /// So many bytes.
     pub fn bytes(&mut self, count: usize) -> Vec<u8> {
         let mut bytes = vec![0; count];

@@ -99,15 +99,11 @@ impl Room {
 
     /// What the library replies and leaves.
     fn rescue(&mut self, bytes: &[u8], before: &Rescued, against: Against) -> Result<(u32, Rescued), String> {
-        let file = self.file.lend::<u8>(bytes.len(), against);
-        file.copy_from_slice(bytes);
-        let copy = self.copy.lend::<u8>(before.copy.len(), against);
-        copy.copy_from_slice(&before.copy);
+        let file = self.file.lend_copy(bytes, against);
+        let copy = self.copy.lend_copy(&before.copy, against);
         let [offsets, numbers] = self.lists.each_mut();
-        let offsets = offsets.lend::<u64>(before.offsets.len(), against);
-        offsets.copy_from_slice(&before.offsets);
-        let numbers = numbers.lend::<u64>(before.numbers.len(), against);
-        numbers.copy_from_slice(&before.numbers);
+        let offsets = offsets.lend_copy(&before.offsets, against);
+        let numbers = numbers.lend_copy(&before.numbers, against);
         let [copied, listed] = self.counts.each_mut().map(|room| &mut room.lend::<u64>(1, against)[0]);
         (*copied, *listed) = (before.copied, before.listed);
         let number = native::rescue(file, copy, offsets, numbers, [copied, listed]);

@@ -90,23 +90,17 @@ impl Room {
         job: &Job,
         against: Against,
     ) -> Result<(), String> {
-        let sheet = self.sheet.lend::<u8>(before.sheet.len(), against);
-        sheet.copy_from_slice(&before.sheet);
-        let work = self.work.lend::<u32>(before.work.len(), against);
-        work.copy_from_slice(&before.work);
-        let buffer = self.buffer.lend::<u8>(before.buffer.len(), against);
-        buffer.copy_from_slice(&before.buffer);
+        let sheet = self.sheet.lend_copy(&before.sheet, against);
+        let work = self.work.lend_copy(&before.work, against);
+        let buffer = self.buffer.lend_copy(&before.buffer, against);
         let [xs, ys] = self.lists.each_mut();
-        let (xs, ys) = (xs.lend::<i32>(before.lists[0].len(), against), ys.lend::<i32>(before.lists[1].len(), against));
-        xs.copy_from_slice(&before.lists[0]);
-        ys.copy_from_slice(&before.lists[1]);
-        let rectangle: &mut Rectangle = self.rectangle.lend::<u32>(4, against).try_into().expect("4 numbers were lent");
-        *rectangle = before.rectangle;
+        let (xs, ys) = (xs.lend_copy(&before.lists[0], against), ys.lend_copy(&before.lists[1], against));
+        let rectangle = self.rectangle.lend_copy(&before.rectangle, against);
+        let rectangle: &mut Rectangle = rectangle.try_into().expect("4 numbers were lent");
         let none = Size { len: 0, width: 0, height: 0, pitch: 0 };
         let Size { width, height, pitch, .. } = job.size().unwrap_or(none);
         let mut short = |call: &mut dyn FnMut(&mut u32) -> u32| {
-            let value = &mut self.value.lend::<u32>(1, against)[0];
-            *value = before.value as u32;
+            let value = &mut self.value.lend_copy(&[before.value as u32], against)[0];
             (call(value), u64::from(*value))
         };
         let (number, value) = match job {
@@ -123,8 +117,7 @@ impl Room {
             }
             Job::Next(_) => return Ok(()),
             Job::File(size, bytes) => {
-                let file = self.file.lend::<u8>(bytes.len(), against);
-                file.copy_from_slice(bytes);
+                let file = self.file.lend_copy(bytes, against);
                 let value = &mut self.value.lend::<u64>(1, against)[0];
                 if sound(rules, bytes) {
                     Again::of(*size, bytes).write(rules, buffer, value)?;
@@ -137,8 +130,7 @@ impl Room {
                 (number, *value)
             }
             Job::Write(_, _, ink, figure) => {
-                let filled = &mut self.value.lend::<u64>(1, against)[0];
-                *filled = before.value;
+                let filled = &mut self.value.lend_copy(&[before.value], against)[0];
                 (native::write(buffer, filled, *ink, *figure), *filled)
             }
             Job::Again(again) => {
@@ -151,8 +143,7 @@ impl Room {
             Job::Rescue(rescue) => {
                 let by_rules = (expected.number, &expected.rescued);
                 let copied = self.rescue.by_library(&rescue.file, &before.rescued, by_rules, against)?;
-                let value = &mut self.value.lend::<u64>(1, against)[0];
-                *value = before.value;
+                let value = &mut self.value.lend_copy(&[before.value], against)[0];
                 let lent = Lent { bytes: sheet, width, height, pitch };
                 (copied.map_or(expected.number, |copied| native::file(lent, &copied, value, rectangle)), *value)
             }
@@ -202,7 +193,7 @@ impl Outcome {
             Job::Fill(size, fill, places, ground) => {
                 sheet.resize(size.len, 0);
                 ground.lay(&mut random, &mut Sheet { shape: size.shape(), bytes: &mut sheet }, *fill);
-                work = random.numbers(*places).into_iter().map(|number| number as u32).collect();
+                work = random.unsigned(*places);
             }
             Job::List(places, _) => lists = places.map(|count| random.numbers(count)),
             Job::Begin(ends) => {
@@ -260,7 +251,7 @@ impl Outcome {
 }
 
 /// Whether a file is accepted, whatever it is drawn on; such a one is also written again.
-fn sound(rules: &Rules, file: &[u8]) -> bool {
+pub(crate) fn sound(rules: &Rules, file: &[u8]) -> bool {
     rules.read(file, |_, _| ()).is_ok()
 }
 
@@ -286,7 +277,6 @@ fn points<const P: usize>(numbers: &[i32]) -> [Cell; P] {
 mod tests {
     use super::*;
     use crate::rule::{refusal, Bad};
-    use crate::writer::{append, Writer};
     use std::cell::RefCell;
     use std::collections::BTreeMap;
 
@@ -298,31 +288,6 @@ mod tests {
     fn noted(figure: &Figure) -> Option<Bad> {
         ASKED.with_borrow_mut(|asked| asked.push(figure.clone()));
         refusal(figure)
-    }
-
-    /// A writer that leaves the count, which every sound file that has a record shows.
-    #[test]
-    fn every_sound_file_is_written_again() {
-        let right = Rules::document();
-        let writer = Writer {
-            append: |rules, buffer, ink, figure| append(rules, &mut copy(buffer), ink, figure),
-            ..right.writer
-        };
-        let wrong = Rules { writer, ..right };
-        let (mut room, mut written) = (Room::default(), 0);
-        for seed in 0..1000 {
-            for case in [Case::file(seed), Case::damaged(seed)] {
-                let Job::File(_, file) = &case.job else { unreachable!() };
-                let due = sound(&right, file) && !file.is_empty();
-                assert_eq!(room.compare(&wrong, &case).is_err(), due, "{case}");
-                written += u32::from(due);
-            }
-        }
-        assert!(written >= 200, "only {written} files were written again");
-    }
-
-    fn copy<'a>(buffer: &'a mut Buffer) -> Buffer<'a> {
-        Buffer { bytes: buffer.bytes, filled: buffer.filled }
     }
 
     const ZEROS: [&str; 4] = ["a radius of 0", "both axes 0", "the first axis 0", "the second axis 0"];
