@@ -5,6 +5,8 @@ use crate::metres::{Metres, Survey};
 use crate::native::{Cells, Fill, Pen};
 use crate::rescued::Rescue;
 use crate::rule::Shape;
+use crate::tallied::{Call, Held, List, Tallied};
+use std::borrow::Cow;
 use std::fmt;
 use std::str::{FromStr, SplitWhitespace};
 
@@ -41,6 +43,8 @@ pub enum Job {
     Again(Again),
     /// A file is rescued, and what is copied of it is drawn.
     Rescue(Rescue),
+    /// A drawing or fill is lent a list beside its sheet, or the sheet is counted afresh.
+    Tallied(Tallied),
 }
 
 /// A job, and the seed of what the lent buffers hold before it.
@@ -71,8 +75,8 @@ pub fn places([x0, y0, x1, y1]: [i32; 4]) -> usize {
 
 impl Job {
     /// The export's name after its pw_; but a circle, drawn by that of ellipses, and a file written again have their own.
-    pub fn name(&self) -> &'static str {
-        match self {
+    pub fn name(&self) -> Cow<'static, str> {
+        Cow::Borrowed(match self {
             Job::Cells(_, _, figure) => figure.name(),
             Job::Metres(_, _, _, Metres::Line(_)) => "line_metres",
             Job::Metres(_, _, _, Metres::Circle(_)) => "circle_metres",
@@ -89,7 +93,11 @@ impl Job {
             Job::Write(.., Cells::Cubic(..)) => "write_cubic",
             Job::Again(_) => "again",
             Job::Rescue(_) => "rescue",
-        }
+            Job::Tallied(Tallied { call: Call::Afresh(_), .. }) => "tally",
+            Job::Tallied(Tallied { call: Call::Kept(job), .. }) => {
+                return Cow::Owned(format!("{}_tallied", job.name()))
+            }
+        })
     }
 
     /// The sheet that is lent.
@@ -98,7 +106,16 @@ impl Job {
             Job::Cells(size, ..) | Job::Metres(size, ..) | Job::File(size, _) | Job::Fill(size, ..) => Some(*size),
             Job::Again(again) => Some(again.size),
             Job::Rescue(rescue) => Some(rescue.size),
+            Job::Tallied(tallied) => tallied.size(),
             Job::List(..) | Job::Begin(_) | Job::Next(_) | Job::Write(..) => None,
+        }
+    }
+
+    /// Of a drawing or fill that is lent a list, the same without one.
+    pub fn without_list(&self) -> Option<&Job> {
+        match self {
+            Job::Tallied(Tallied { call: Call::Kept(job), .. }) => Some(job),
+            _ => None,
         }
     }
 
@@ -151,8 +168,14 @@ fn digits(bytes: &[u8]) -> String {
 
 impl fmt::Display for Case {
     fn fmt(&self, to: &mut fmt::Formatter) -> fmt::Result {
-        write!(to, "{} {}", self.job.name(), self.held)?;
-        match &self.job {
+        write!(to, "{} {}{}", self.job.name(), self.held, self.job)
+    }
+}
+
+/// All but its name, each word after a blank.
+impl fmt::Display for Job {
+    fn fmt(&self, to: &mut fmt::Formatter) -> fmt::Result {
+        match self {
             Job::Cells(size, ink, figure) => write!(to, " {size} {ink}{}", figure.words()),
             Job::Metres(size, ink, survey, figure) => {
                 let survey = words(&[survey.east, survey.north, survey.size]);
@@ -178,6 +201,8 @@ impl fmt::Display for Case {
                 write!(to, " {}", digits(file))
             }
             Job::Rescue(Rescue { size, lengths, file }) => write!(to, " {size}{} {}", words(lengths), digits(file)),
+            Job::Tallied(Tallied { list, call: Call::Afresh(size) }) => write!(to, " {list} {size}"),
+            Job::Tallied(Tallied { list, call: Call::Kept(job) }) => write!(to, " {list}{job}"),
         }
     }
 }
@@ -247,43 +272,75 @@ fn again(size: Size, words: &mut SplitWhitespace) -> Result<Job, String> {
     Ok(Job::Again(Again { size, room, thrown, file: bytes(words)? }))
 }
 
+/// What a list holds, after how many places it has.
+fn list(words: &mut SplitWhitespace) -> Result<List, String> {
+    let places = number(words)?;
+    if words.clone().next() == Some("noise") {
+        words.next();
+        return Ok(List { places, held: Held::Noise });
+    }
+    let count = number::<usize>(words)?;
+    let wrong: Result<_, String> = (0..count).map(|_| Ok((number(words)?, number(words)?))).collect();
+    Ok(List { places, held: Held::Tally(wrong?) })
+}
+
+/// A drawing or fill that is lent a list.
+fn kept(name: &str, words: &mut SplitWhitespace) -> Result<Job, String> {
+    let (list, job) = (list(words)?, job(name, words)?);
+    match job {
+        Job::Cells(..) | Job::Metres(..) | Job::File(..) | Job::Fill(..) => {
+            Ok(Job::Tallied(Tallied { list, call: Call::Kept(Box::new(job)) }))
+        }
+        _ => Err(format!("no export is named {name}_tallied")),
+    }
+}
+
+fn size(words: &mut SplitWhitespace) -> Result<Size, String> {
+    Ok(Size { len: number(words)?, width: number(words)?, height: number(words)?, pitch: number(words)? })
+}
+
+/// A figure in metres with this name, after the sheet.
+fn metres(size: Size, name: &str, words: &mut SplitWhitespace) -> Result<Job, String> {
+    let ink = number(words)?;
+    let [east, north, cell_size] = numbers(words)?;
+    let figure = match name {
+        "line_metres" => Metres::Line(numbers(words)?),
+        "circle_metres" => Metres::Circle(numbers(words)?),
+        "ellipse_metres" => Metres::Ellipse(numbers(words)?),
+        _ => return Err(format!("no export is named {name}")),
+    };
+    Ok(Job::Metres(size, ink, Survey { east, north, size: cell_size }, figure))
+}
+
+/// The job with this name.
+fn job(name: &str, words: &mut SplitWhitespace) -> Result<Job, String> {
+    if let Some(job) = without_sheet(name, words)? {
+        return Ok(job);
+    }
+    if let Some(drawn) = name.strip_suffix("_tallied") {
+        return kept(drawn, words);
+    }
+    if name == "tally" {
+        return Ok(Job::Tallied(Tallied { list: list(words)?, call: Call::Afresh(size(words)?) }));
+    }
+    let size = size(words)?;
+    match name {
+        "fill" => fill(size, words),
+        "again" => again(size, words),
+        "rescue" => Ok(Job::Rescue(Rescue { size, lengths: numbers(words)?, file: bytes(words)? })),
+        "file" => Ok(Job::File(size, bytes(words)?)),
+        _ if name.ends_with("_metres") => metres(size, name, words),
+        _ => Ok(Job::Cells(size, number(words)?, figure(name, words)?)),
+    }
+}
+
 impl FromStr for Case {
     type Err = String;
 
     fn from_str(text: &str) -> Result<Case, String> {
         let mut words = text.split_whitespace();
-        let words = &mut words;
         let name = words.next().ok_or("an empty case")?;
-        let held = number(words)?;
-        if let Some(job) = without_sheet(name, words)? {
-            return Ok(Case { held, job });
-        }
-        let size = Size { len: number(words)?, width: number(words)?, height: number(words)?, pitch: number(words)? };
-        if name == "fill" {
-            return Ok(Case { held, job: fill(size, words)? });
-        }
-        if name == "again" {
-            return Ok(Case { held, job: again(size, words)? });
-        }
-        if name == "rescue" {
-            let job = Job::Rescue(Rescue { size, lengths: numbers(words)?, file: bytes(words)? });
-            return Ok(Case { held, job });
-        }
-        if name == "file" {
-            return Ok(Case { held, job: Job::File(size, bytes(words)?) });
-        }
-        let ink = number(words)?;
-        if name.ends_with("_metres") {
-            let [east, north, cell_size] = numbers(words)?;
-            let figure = match name {
-                "line_metres" => Metres::Line(numbers(words)?),
-                "circle_metres" => Metres::Circle(numbers(words)?),
-                "ellipse_metres" => Metres::Ellipse(numbers(words)?),
-                _ => return Err(format!("no export is named {name}")),
-            };
-            return Ok(Case { held, job: Job::Metres(size, ink, Survey { east, north, size: cell_size }, figure) });
-        }
-        Ok(Case { held, job: Job::Cells(size, ink, figure(name, words)?) })
+        Ok(Case { held: number(&mut words)?, job: job(name, &mut words)? })
     }
 }
 
@@ -295,7 +352,7 @@ mod tests {
     fn a_case_is_read_back_as_it_was_written() {
         for seed in 0..2000 {
             let makes = [Case::figure, Case::file, Case::damaged, Case::pen, Case::fill, Case::write, Case::again];
-            for case in makes.map(|make| make(seed)).into_iter().chain([Case::rescue(seed)]) {
+            for case in makes.map(|make| make(seed)).into_iter().chain([Case::rescue(seed), Case::tallied(seed)]) {
                 let text = case.to_string();
                 let again: Case = text.parse().unwrap();
                 assert_eq!(again.to_string(), text);

@@ -59,7 +59,7 @@ impl Case {
     }
 }
 
-fn size(random: &mut Random) -> Size {
+pub fn size(random: &mut Random) -> Size {
     let most = random.one_of(&[4, 16, 16, 64, 64]);
     let (mut width, mut height) = (random.within(1, most), random.within(1, most));
     match random.number() % 4000 {

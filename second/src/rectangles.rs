@@ -122,7 +122,7 @@ fn rectangles_of_every_sort_come_at_random() {
     let mut seen: BTreeMap<(&str, &str), u32> = BTreeMap::new();
     for seed in 0..20_000 {
         for case in [Case::figure(seed), Case::file(seed)] {
-            Outcome::before(&case).by_rules(&rules, &case.job);
+            Outcome::before(case.held, &case.job).by_rules(&rules, &case.job);
             for (shape, painted) in DRAWN.take() {
                 let (given, sorts) = match case.job {
                     Job::Cells(..) => ("cells", of_figure(shape, &painted[0])),

@@ -3,6 +3,7 @@ use crate::figure::{cubic, line_cells, on_circle, on_ellipse};
 use crate::native::Fill;
 use crate::repaint::{Rectangle, Repainter};
 use crate::rescue::Rescuer;
+use crate::tally::Tallier;
 use crate::writer::Writer;
 
 pub const LEAST: i64 = -16_384;
@@ -96,6 +97,8 @@ pub struct Rules {
     pub rescuer: Rescuer,
     /// What tells which rectangle to repaint.
     pub repainter: Repainter,
+    /// What keeps a tally of a sheet's rows.
+    pub tallier: Tallier,
 }
 
 impl Rules {
@@ -120,6 +123,7 @@ impl Rules {
             writer: Writer::document(),
             rescuer: Rescuer::document(),
             repainter: Repainter::document(),
+            tallier: Tallier::document(),
         }
     }
 

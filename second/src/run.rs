@@ -5,12 +5,15 @@ use crate::file::first_ink;
 use crate::ground::inked;
 use crate::guard::{Against, Guarded};
 use crate::native::{self, Cells, Lent};
-use crate::pen::{self, Call};
+use crate::native_tally;
+use crate::pen;
 use crate::random::Random;
 use crate::repaint::Rectangle;
 use crate::rescue::Rescued;
 use crate::rescued::{self, Rescue};
 use crate::rule::{Cell, Figure, Reply, Rules, Shape, Sheet};
+use crate::tallied::{counted_afresh, Call, Tallied};
+use crate::tally::Beside;
 use crate::writer::Buffer;
 use std::fmt::Display;
 
@@ -20,6 +23,7 @@ pub struct Room {
     work: Guarded,
     buffer: Guarded,
     lists: [Guarded; 2],
+    rows: [Guarded; 2],
     file: Guarded,
     value: Guarded,
     rectangle: Guarded,
@@ -28,16 +32,18 @@ pub struct Room {
 }
 
 /// What a case leaves behind: reply, value or filled count, the lent box, the sheet, the work slice, the buffer that is
-/// written to, the two lists, each call of a pen, and what a rescue was lent.
+/// written to, the two lists, that of the tally, each call of a pen, and what a rescue was lent.
+#[derive(Default)]
 pub(crate) struct Outcome {
-    number: u32,
-    value: u64,
-    rectangle: Rectangle,
-    sheet: Vec<u8>,
+    pub number: u32,
+    pub value: u64,
+    pub rectangle: Rectangle,
+    pub sheet: Vec<u8>,
     work: Vec<u32>,
     buffer: Vec<u8>,
     lists: [Vec<i32>; 2],
-    calls: Vec<Call>,
+    pub rows: Vec<u32>,
+    calls: Vec<pen::Call>,
     rescued: Rescued,
 }
 
@@ -49,6 +55,7 @@ impl Default for Room {
             work: Guarded::with_room(4 * MOST_WORK),
             buffer: Guarded::with_room(MOST_BUFFER),
             lists: [places(), places()],
+            rows: [places(), places()],
             file: Guarded::with_room(1 << 16),
             value: Guarded::with_room(8),
             rectangle: Guarded::with_room(16),
@@ -59,14 +66,20 @@ impl Default for Room {
 }
 
 impl Room {
-    /// Draws a case both ways: the reply that both gave and whether its sheet changed or, where it has none, a buffer, list or
-    /// pen; or what differs.
+    /// Draws a case both ways: the reply that both gave and whether its sheet or its tally changed or, where it has no sheet,
+    /// a buffer, list or pen; or what differs.
     pub fn compare(&mut self, rules: &Rules, case: &Case) -> Result<(u32, bool), String> {
-        let before = Outcome::before(case);
-        let mut expected = Outcome::before(case);
+        let before = Outcome::before(case.held, &case.job);
+        let mut expected = Outcome::before(case.held, &case.job);
         expected.by_rules(rules, &case.job);
+        // the same is drawn without a list, but where the list is what was refused
+        let without_list = case.job.without_list().filter(|_| !matches!(expected.number, 19 | 20));
         for against in [Against::Before, Against::After] {
             self.by_library(rules, &before, &expected, &case.job, against)?;
+            if let Some(job) = without_list {
+                let compared = self.by_library(rules, &before, &expected, job, against);
+                compared.map_err(|what| format!("without a list, {what}"))?;
+            }
             if let Some(lent) = before.calls.first() {
                 let calls = self.pen.by_library(*lent, case.job.begins(), expected.calls.len(), against);
                 same("call", &calls, &expected.calls)?;
@@ -74,7 +87,7 @@ impl Room {
         }
         let pen = |outcome: &Outcome| outcome.calls.first().map(|call| call.pen);
         let changed = match case.job.size() {
-            Some(_) => expected.sheet != before.sheet,
+            Some(_) => expected.sheet != before.sheet || expected.rows != before.rows,
             None => {
                 expected.buffer != before.buffer || expected.lists != before.lists || pen(&expected) != pen(&before)
             }
@@ -95,6 +108,8 @@ impl Room {
         let buffer = self.buffer.lend_copy(&before.buffer, against);
         let [xs, ys] = self.lists.each_mut();
         let (xs, ys) = (xs.lend_copy(&before.lists[0], against), ys.lend_copy(&before.lists[1], against));
+        let [rows, fresh] = self.rows.each_mut();
+        let rows = rows.lend_copy(&before.rows, against);
         let rectangle = self.rectangle.lend_copy(&before.rectangle, against);
         let rectangle: &mut Rectangle = rectangle.try_into().expect("4 numbers were lent");
         let none = Size { len: 0, width: 0, height: 0, pitch: 0 };
@@ -103,18 +118,21 @@ impl Room {
             let value = &mut self.value.lend_copy(&[before.value as u32], against)[0];
             (call(value), u64::from(*value))
         };
-        let (number, value) = match job {
+        let mut list = job.without_list().map(|_| &mut *rows);
+        let (number, value) = match job.without_list().unwrap_or(job) {
             Job::Cells(_, ink, figure) => short(&mut |value| {
-                native::draw(Lent { bytes: sheet, width, height, pitch }, *ink, *figure, value, rectangle)
+                let (lent, list) = (Lent { bytes: sheet, width, height, pitch }, list.as_deref_mut());
+                native_tally::draw(lent, list, *ink, *figure, value, rectangle)
             }),
             Job::Metres(_, ink, survey, figure) => short(&mut |value| {
-                let lent = Lent { bytes: sheet, width, height, pitch };
-                native::draw_metres(lent, *ink, *survey, *figure, value, rectangle)
+                let (lent, list) = (Lent { bytes: sheet, width, height, pitch }, list.as_deref_mut());
+                native_tally::draw_metres(lent, list, *ink, *survey, *figure, value, rectangle)
             }),
             Job::List(_, ends) | Job::Begin(ends) => short(&mut |value| native::list(xs, ys, *ends, value)),
-            Job::Fill(_, fill, ..) => {
-                short(&mut |value| native::fill(Lent { bytes: sheet, width, height, pitch }, *fill, work, value))
-            }
+            Job::Fill(_, fill, ..) => short(&mut |value| {
+                let (lent, list) = (Lent { bytes: sheet, width, height, pitch }, list.as_deref_mut());
+                native_tally::fill(lent, list, *fill, work, value)
+            }),
             Job::Next(_) => return Ok(()),
             Job::File(size, bytes) => {
                 let file = self.file.lend_copy(bytes, against);
@@ -123,7 +141,8 @@ impl Room {
                     Again::of(*size, bytes).write(rules, buffer, value)?;
                 }
                 *value = before.value;
-                let number = native::file(Lent { bytes: sheet, width, height, pitch }, file, value, rectangle);
+                let lent = Lent { bytes: sheet, width, height, pitch };
+                let number = native_tally::file(lent, list, file, value, rectangle);
                 if file != bytes {
                     return Err("the file was changed".into());
                 }
@@ -147,10 +166,17 @@ impl Room {
                 let lent = Lent { bytes: sheet, width, height, pitch };
                 (copied.map_or(expected.number, |copied| native::file(lent, &copied, value, rectangle)), *value)
             }
+            Job::Tallied(_) => (native_tally::tally(Lent { bytes: sheet, width, height, pitch }, rows), before.value),
         };
         same("reply", &[number], &[expected.number])?;
         same("value", &[value], &[expected.value])?;
         same("place of the box", rectangle, &expected.rectangle)?;
+        if let Job::Tallied(_) = job {
+            same("place of the list", rows, &expected.rows)?;
+            if number == 0 {
+                counted_afresh(fresh, Lent { bytes: sheet, width, height, pitch }, rows, against)?;
+            }
+        }
         same("byte", sheet, &expected.sheet)?;
         same("byte of the buffer", buffer, &expected.buffer)?;
         // a done fill may leave anything in its work slice, a refused one what was there
@@ -173,19 +199,21 @@ pub fn same<T: PartialEq + Display>(name: &str, found: &[T], expected: &[T]) -> 
 }
 
 impl Outcome {
+    /// A lent sheet alone.
+    pub(crate) fn of_sheet(sheet: Vec<u8>) -> Outcome {
+        Outcome { sheet, ..Outcome::default() }
+    }
+
     /// What is lent, before anything is drawn.
-    pub(crate) fn before(case: &Case) -> Outcome {
-        let mut random = Random(case.held);
+    pub(crate) fn before(held: u64, job: &Job) -> Outcome {
+        let mut random = Random(held);
         // an export that tells its value in 32 bits is lent 32 bits
-        let most = if matches!(case.job, Job::File(..) | Job::Again(_) | Job::Rescue(_)) {
-            u64::MAX
-        } else {
-            u64::from(u32::MAX)
-        };
+        let most =
+            if matches!(job, Job::File(..) | Job::Again(_) | Job::Rescue(_)) { u64::MAX } else { u64::from(u32::MAX) };
         let mut value = random.number() & most;
         let (mut sheet, mut work, mut buffer) = (Vec::new(), Vec::new(), Vec::new());
         let (mut lists, mut calls, mut rescued) = ([Vec::new(), Vec::new()], Vec::new(), Rescued::default());
-        match &case.job {
+        match job {
             Job::Cells(size, ink, _) | Job::Metres(size, ink, ..) => sheet = inked(&mut random, size.len, *ink),
             Job::File(size, file) => {
                 (sheet, buffer) = (inked(&mut random, size.len, first_ink(file)), random.bytes(file.len()));
@@ -198,9 +226,9 @@ impl Outcome {
             Job::List(places, _) => lists = places.map(|count| random.numbers(count)),
             Job::Begin(ends) => {
                 lists = [(); 2].map(|()| random.numbers(places(*ends)));
-                calls.push(Call::before(&mut random, None));
+                calls.push(pen::Call::before(&mut random, None));
             }
-            Job::Next(pen) => calls.push(Call::before(&mut random, Some(*pen))),
+            Job::Next(pen) => calls.push(pen::Call::before(&mut random, Some(*pen))),
             Job::Write(len, filled, ..) => (value, buffer) = (*filled, random.bytes(*len)),
             Job::Again(Again { size, room, file, .. }) => {
                 (sheet, buffer) = (inked(&mut random, size.len, first_ink(file)), random.bytes(*room));
@@ -209,27 +237,33 @@ impl Outcome {
                 sheet = inked(&mut random, size.len, first_ink(file));
                 rescued = Rescued::before(&mut random, *lengths);
             }
+            Job::Tallied(tallied) => return tallied.before(held),
         }
         let rectangle = [(); 4].map(|()| random.number() as u32);
-        Outcome { number: 0, value, rectangle, sheet, work, buffer, lists, calls, rescued }
+        Outcome { number: 0, value, rectangle, sheet, work, buffer, lists, rows: Vec::new(), calls, rescued }
     }
 
     pub(crate) fn by_rules(&mut self, rules: &Rules, job: &Job) {
         self.calls = self.calls.first().map_or(Vec::new(), |lent| lent.by_rules(rules, job.begins()));
+        if let Job::File(_, bytes) = job.without_list().unwrap_or(job) {
+            if sound(rules, bytes) {
+                self.buffer.copy_from_slice(bytes);
+            }
+        }
         let mut sheet = Sheet { shape: Shape { width: 0, height: 0, pitch: 0 }, bytes: &mut self.sheet };
         if let Some(size) = job.size() {
             sheet.shape = size.shape();
         }
         let Reply { number, value, rectangle } = match job {
-            Job::Cells(_, ink, figure) => rules.draw(&mut sheet, *ink, &widened(figure)),
-            Job::Metres(_, ink, survey, figure) => rules.draw_metres(&mut sheet, *ink, *survey, *figure),
-            Job::File(_, bytes) => {
-                if sound(rules, bytes) {
-                    self.buffer.copy_from_slice(bytes);
-                }
-                rules.draw_file(&mut sheet, bytes)
+            Job::Cells(..) | Job::Metres(..) | Job::File(..) | Job::Fill(..) => {
+                rules.without_list(&mut sheet, &mut self.work, job)
             }
-            Job::Fill(_, fill, ..) => rules.fill(&mut sheet, *fill, &mut self.work),
+            Job::Tallied(Tallied { call: Call::Kept(job), .. }) => {
+                (rules.tallier.draw)(rules, &mut Beside { sheet, list: &mut self.rows, work: &mut self.work }, job)
+            }
+            Job::Tallied(Tallied { call: Call::Afresh(_), .. }) => {
+                Reply { number: (rules.tallier.afresh)(rules, &sheet, &mut self.rows), ..Reply::done(None) }
+            }
             Job::Next(_) => Reply { number: self.calls[0].number, value: None, rectangle: None },
             Job::Write(_, _, ink, figure) => {
                 let mut buffer = Buffer { bytes: &mut self.buffer, filled: self.value };
@@ -247,6 +281,19 @@ impl Outcome {
         self.number = number;
         self.value = value.unwrap_or(self.value);
         self.rectangle = rectangle.unwrap_or(self.rectangle);
+    }
+}
+
+impl Rules {
+    /// Draws a figure or a file, or fills a territory.
+    pub(crate) fn without_list(&self, sheet: &mut Sheet, work: &mut [u32], job: &Job) -> Reply {
+        match job {
+            Job::Cells(_, ink, figure) => self.draw(sheet, *ink, &widened(figure)),
+            Job::Metres(_, ink, survey, figure) => self.draw_metres(sheet, *ink, *survey, *figure),
+            Job::File(_, bytes) => self.draw_file(sheet, bytes),
+            Job::Fill(_, fill, ..) => self.fill(sheet, *fill, work),
+            _ => unreachable!("it sets no cell"),
+        }
     }
 }
 
@@ -314,7 +361,7 @@ mod tests {
                     Job::File(..) => "a file",
                     _ => continue,
                 };
-                Outcome::before(&case).by_rules(&rules, &case.job);
+                Outcome::before(case.held, &case.job).by_rules(&rules, &case.job);
                 for figure in ASKED.take() {
                     if let Some(what) = zeros(&figure) {
                         *seen.entry((given, what)).or_default() += 1;

@@ -1,8 +1,9 @@
 //! Compares the proved library with the second drawing program on random figures, files, damaged files, pens, fills,
-//! writes of one figure, files that are read and written again, and rescues of damaged files.
+//! writes of one figure, files that are read and written again, rescues of damaged files, and tallies that drawings and
+//! fills keep or that are counted afresh.
 //!
 //!     compare [KIND] [COUNT] [SEED]    COUNT cases of each kind, or of this one: figures, files, damaged, pens, fills,
-//!                                      writes, again, rescues
+//!                                      writes, again, rescues, tallies
 //!     compare --one CASE               one case, as a difference prints it
 //!     compare --teeth                  wrong second programs, each of which must be caught
 use second::case::{Case, Job};
@@ -11,6 +12,7 @@ use second::many::{count, nth_seed, on_all_processors};
 use second::rule::Rules;
 use second::run::Room;
 use second::teeth;
+use std::borrow::Cow;
 use std::cell::Cell;
 use std::collections::BTreeMap;
 use std::process::{Command, ExitCode};
@@ -26,7 +28,7 @@ const PATIENCE: u64 = 100_000;
 type Make = fn(u64) -> Case;
 
 /// Each kind of case: the word that asks for it, and what its cases are called.
-const KINDS: [(&str, &str, Make); 8] = [
+const KINDS: [(&str, &str, Make); 9] = [
     ("figures", "figures", Case::figure),
     ("files", "files", Case::file),
     ("damaged", "damaged files", Case::damaged),
@@ -35,6 +37,7 @@ const KINDS: [(&str, &str, Make); 8] = [
     ("writes", "writes", Case::write),
     ("again", "files again", Case::again),
     ("rescues", "rescues", Case::rescue),
+    ("tallies", "tallies", Case::tallied),
 ];
 
 thread_local! {
@@ -71,15 +74,15 @@ fn case(make: Make, seed: u64, i: u64) -> Case {
 /// How often an export gave each reply, how often it changed a sheet, buffer, list or pen, and how often a sheet with padding.
 #[derive(Default)]
 struct Seen {
-    replies: [u64; 19],
+    replies: [u64; 21],
     changes: u64,
     padded: u64,
 }
 
 #[derive(Default)]
-struct Tally(BTreeMap<&'static str, Seen>);
+struct Replies(BTreeMap<Cow<'static, str>, Seen>);
 
-impl Tally {
+impl Replies {
     fn add(&mut self, job: &Job, (number, changed): (u32, bool)) {
         let seen = self.0.entry(job.name()).or_default();
         seen.replies[number as usize] += 1;
@@ -87,9 +90,9 @@ impl Tally {
         seen.padded += u64::from(changed && job.size().is_some_and(|size| size.width < size.pitch));
     }
 
-    fn join(&mut self, other: &Tally) {
+    fn join(&mut self, other: &Replies) {
         for (export, seen) in &other.0 {
-            let mine = self.0.entry(export).or_default();
+            let mine = self.0.entry(export.clone()).or_default();
             mine.replies.iter_mut().zip(seen.replies).for_each(|(sum, more)| *sum += more);
             mine.changes += seen.changes;
             mine.padded += seen.padded;
@@ -101,7 +104,7 @@ impl Tally {
             let told = replies.iter().enumerate().filter(|&(_, &times)| times > 0);
             let told: Vec<String> = told.map(|(number, times)| format!("{number}: {times}")).collect();
             let padded = if *padded > 0 { format!(", {padded} with padding") } else { String::new() };
-            println!("  {export:14} changed something {changes} times{padded}; replies {}", told.join(", "));
+            println!("  {export:22} changed something {changes} times{padded}; replies {}", told.join(", "));
         }
     }
 }
@@ -110,10 +113,10 @@ impl Tally {
 fn run(name: &str, make: Make, count: u64, seed: u64) -> bool {
     let began = Instant::now();
     let (next, differences) = (AtomicU64::new(0), AtomicU64::new(0));
-    let tally = Mutex::new(Tally::default());
+    let replies = Mutex::new(Replies::default());
     on_all_processors(|| {
         let mut room = Room::default();
-        let mut own = Tally::default();
+        let mut own = Replies::default();
         loop {
             let i = next.fetch_add(1, Relaxed);
             if i >= count || differences.load(Relaxed) >= SHOWN {
@@ -128,11 +131,11 @@ fn run(name: &str, make: Make, count: u64, seed: u64) -> bool {
                 }
             }
         }
-        tally.lock().expect("no thread stops").join(&own);
+        replies.lock().expect("no thread stops").join(&own);
     });
     let differences = differences.into_inner();
     println!("{name}: {count} with seed {seed}, {differences} differences, {:.1} s", began.elapsed().as_secs_f64());
-    tally.into_inner().expect("no thread stops").print();
+    replies.into_inner().expect("no thread stops").print();
     differences == 0
 }
 
