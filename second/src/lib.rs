@@ -27,6 +27,8 @@ pub mod rescued;
 pub mod rule;
 pub mod run;
 pub mod tallied;
+#[cfg(test)]
+mod tallies;
 pub mod tally;
 pub mod teeth;
 pub mod teeth_crossing;

@@ -101,10 +101,10 @@ fn every_drawing_is_compared_in_its_rectangle() {
     let repainter = Repainter { told: |_, _, _| WRONG, refused: WRONG, refused_file: WRONG };
     let mut room = Room::default();
     for seed in 0..1000 {
-        for make in [Case::figure, Case::file, Case::damaged, Case::rescue, Case::fill, Case::write] {
+        for make in [Case::figure, Case::file, Case::damaged, Case::rescue, Case::fill, Case::write, Case::tallied] {
             let case = make(seed);
             let (number, _) = room.compare(&right, &case).unwrap();
-            let draws = match case.job {
+            let draws = match case.job.without_list().unwrap_or(&case.job) {
                 Job::Cells(..) | Job::Metres(..) | Job::File(..) => true,
                 // a refused rescue leaves nothing to draw
                 Job::Rescue(_) => number == 0,
