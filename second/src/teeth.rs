@@ -4,11 +4,13 @@ use crate::rule::{asked, bad_fields, no_sheet, place, refusal, Bad, Cell, Figure
 use crate::teeth_fill::wrong_fills;
 use crate::teeth_repaint::wrong_repainters;
 use crate::teeth_rescue::wrong_rescuers;
+use crate::teeth_tally::wrong_talliers;
 use crate::teeth_write::wrong_writers;
 
 /// Each with what is wrong in it.
 pub fn wrong_programs() -> Vec<(&'static str, Rules)> {
-    [wrong_figures(), wrong_fills(), wrong_writers(), wrong_rescuers(), wrong_repainters()].concat()
+    let drawn = [wrong_figures(), wrong_fills(), wrong_repainters(), wrong_talliers()].concat();
+    [drawn, wrong_writers(), wrong_rescuers()].concat()
 }
 
 fn wrong_figures() -> Vec<(&'static str, Rules)> {
