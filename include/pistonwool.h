@@ -14,8 +14,8 @@
  * A tally is a list of 32-bit numbers kept beside a sheet, one place for each row from the top down: how many of the row's cells
  * are nonzero. Padding never counts. pw_tally counts it afresh; the forms whose names end in _tallied keep it right
  * (examples/tally.c). Such a form first counts the whole sheet, and refuses a list that is wrong before anything is set; then it
- * draws as the form without a list does; then it counts again no more than the rows of the rectangle, after a fill no more than
- * those of the sheet, and every other place keeps its number. So it costs a pass over the sheet: who keeps no list uses the
+ * draws as the form without a list does; then it counts again the rows of the rectangle, after a fill those from the first to
+ * the last that it set a cell in, and touches no other place. So it costs a pass over the sheet: who keeps no list uses the
  * forms without.
  *
  * A window, a part of a larger sheet of this pitch that begins at (x, y) and is w by h, is a sheet too (examples/window.c):
@@ -242,7 +242,7 @@ uint32_t pw_ellipse_metres_tallied(uint8_t *sheet, size_t len, uint32_t width, u
                                    uint32_t *tally, size_t places, uint8_t ink, double east, double north, double size,
                                    double x, double y, double a, double b, uint32_t box[4]);
 
-/* Fills a territory as pw_fill does, and keeps the tally right. The work slice has room for so many numbers. */
+/* Fills a territory as pw_fill does, and keeps the tally right. The length of the work slice is room. */
 uint32_t pw_fill_tallied(uint8_t *sheet, size_t len, uint32_t width, uint32_t height, uint32_t pitch,
                          uint32_t *tally, size_t places, int32_t x, int32_t y, uint8_t boundary, uint8_t territory,
                          uint32_t *work, size_t room, uint32_t *cells);

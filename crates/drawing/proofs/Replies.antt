@@ -41,7 +41,7 @@ use Rattle.survey.proofs.Cells.{cell-is, nan-none}
 use Rattle.record.specs.Reading.{foundAt, readAt, readAnswer}
 use Rattle.record.specs.File.{readIn, readFrom, readAll, fileAnswer}
 use Rattle.drawing.specs.Figure.{figureDrawing}
-use Rattle.drawing.specs.File.{drawFileAnswer}
+use Rattle.drawing.specs.File.{ofFile, drawFileAnswer}
 use Rattle.drawing.specs.Metres.{cellsDrawing, metresDrawing}
 use Rattle.drawing.proofs.Nothing.{small, whole, home, zero-at, zero-long, line-cells, circle-cells, ellipse-cells}
 
@@ -222,6 +222,9 @@ check-both = record { done = refl; refused = refl }
 pub figure-both : Both (λ (f : Figure). figureDrawing small 1 f .answer 1) (Line origin origin) (Line origin far)
 unfolding lineAnswer ifSheet inLimits coordinate
 figure-both = record { done = refl; refused = refl }
+
+pub of-file-differs : Differ (λ (r : Reply). ofFile (told r) .number) Done (Refused Coordinate)
+of-file-differs e = let z : _≡_ {A = ℕ} 0 2 = e in omega arith
 
 pub file-both : Both (λ (file : List ℕ). drawFileAnswer small file 1) [] lone
 unfolding drawFileAnswer fileAnswer readAll readFrom readIn readAt foundAt ifSheet

@@ -5,3 +5,4 @@ pub mod Tests
 pub mod Kept
 pub mod Beside
 pub mod Every
+pub mod Empty
