@@ -1,17 +1,17 @@
 -- The rows of the pieces of a queue: those of the least and of the greatest of them, since a piece has its row in its highest bits.
-use Prim.Native.Nat.{ℕ, _+_, _-_, _*_, _/_, _<_, _≤_, min, max}
+use Prim.Native.Nat.{ℕ, _+_, _-_, _/_, _<_, _≤_}
 use mathlib.Core.Path.{_≡_, refl, sym, ap, _∙_}
 use mathlib.Core.List.{List}
 use mathlib.Core.Bool.{Bool, true, false}
 use native.Mathlib.Omega.{arith}
 use native.Mathlib.Decide.{ℕ-discrete, decLe}
 use lib.ListN.{getD}
-use Rattle.sheet.specs.Repaint.{nothing, boxOf, Set}
-use Rattle.sheet.specs.Reply.{Answer, isDone, settled}
+use Rattle.sheet.specs.Repaint.{boxOf, Set}
+use Rattle.sheet.specs.Reply.{Answer, isDone}
 use Rattle.sheet.specs.declared.Cell.{Cell}
 use Rattle.sheet.specs.declared.Shape.{Shape}
 use Rattle.sheet.specs.declared.repaint.Rectangle.{Rectangle}
-use Rattle.sheet.proofs.Boxes.{Low, box-low, box-holds, box-within}
+use Rattle.sheet.proofs.Boxes.{box-low, box-holds, box-within}
 use Rattle.fill.specs.Fill.{FillsRows}
 use Rattle.fill.specs.Inner.{rowOf, InRows, Spans, FillsPieces}
 

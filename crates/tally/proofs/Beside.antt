@@ -8,9 +8,9 @@ use native.Mathlib.Omega.{arith}
 use lib.Dec.{eqb}
 use lib.ListN.{length, getD}
 use Rattle.laws.proofs.Tests.{no, yes}
-use Rattle.sheet.specs.Repaint.{nothing, boxOf}
+use Rattle.sheet.specs.Repaint.{nothing}
 use Rattle.sheet.specs.Reply.{Answer, done, withBox, isDone, settled}
-use Rattle.sheet.specs.Drawing.{Inked, only, paintAll, boxAll, Drawing, Paints, telling, Draws}
+use Rattle.sheet.specs.Drawing.{Inked, paintAll, boxAll, Drawing, Paints, telling, Draws}
 use Rattle.sheet.specs.Inner.{fits, Sheet}
 use Rattle.sheet.specs.declared.Cell.{Cell}
 use Rattle.sheet.specs.declared.Shape.{Shape}
@@ -29,8 +29,7 @@ use Rattle.survey.specs.declared.InCells.the-variants as cells
 use Rattle.drawing.specs.Figure.{figureDrawing}
 use Rattle.drawing.specs.File.{ofFile, drawFileAnswer}
 use Rattle.drawing.specs.Metres.{cellsDrawing, metresDrawing}
-use Rattle.tally.specs.Tally.{rowCount, tallyOf, right, ifTally, recounted, beside, plain}
-use Rattle.tally.specs.Kept.{Right}
+use Rattle.tally.specs.Tally.{rowCount, right, ifTally, recounted, beside, plain}
 use Rattle.tally.specs.Inner.{Beside, countedRows}
 use Rattle.tally.proofs.Kept.{right-of}
 use Rattle.tally.proofs.Painted.{all-sheet, clear-stays, outside-clear, box-ends}

@@ -6,13 +6,13 @@ use mathlib.Core.Bool.{true}
 use lib.Dec.{eqb}
 use lib.ListN.{length}
 use Rattle.sheet.specs.Reply.{Answer, isDone}
-use Rattle.sheet.specs.Drawing.{only, Drawing, Paints, telling, Draws}
+use Rattle.sheet.specs.Drawing.{only, Drawing, telling, Draws}
 use Rattle.sheet.specs.Inner.{fits}
 use Rattle.sheet.specs.declared.Cell.{Cell}
 use Rattle.sheet.specs.declared.Shape.{Shape}
 use Rattle.fill.specs.Fill.{FillsAs, Fills, fillDrawing}
 use Rattle.tally.specs.Tally.{ifTally, recounted, beside, plain}
-use Rattle.tally.specs.Kept.{Right, Tallies, Kept}
+use Rattle.tally.specs.Kept.{Right, Kept}
 use Rattle.tally.proofs.Beside.{Listed, Keeping, draws-without, paints-without}
 use Rattle.tally.proofs.Kept.{right-of, of-right, tally-kept}
 use Rattle.tally.proofs.Tests.{done-tally}

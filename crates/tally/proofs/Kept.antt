@@ -1,15 +1,15 @@
 -- What is shown of the tallies, stated in specs/Kept.
-use Prim.Native.Nat.{ℕ, _≤_, _<_}
+use Prim.Native.Nat.{ℕ, _<_}
 use mathlib.Core.Path.{_≡_, refl, sym, subst, ap, _∙_}
 use mathlib.Core.List.{List, []}
-use mathlib.Core.Bool.{Bool, true, false, true≢false}
+use mathlib.Core.Bool.{Bool, true, false}
 use native.Mathlib.Omega.{arith}
 use native.Mathlib.Decide.{decLt}
 use lib.ListN.{length, getD, List·getD-eq-default}
 use lib.Seq.{ext-getD}
 use Rattle.laws.proofs.Tests.{is-false, is-true}
 use Rattle.sheet.specs.Reply.{Answer, done, isDone}
-use Rattle.sheet.specs.Drawing.{Drawing, Paints, paintAll, boxAll}
+use Rattle.sheet.specs.Drawing.{Drawing, paintAll}
 use Rattle.sheet.specs.Inner.{fits}
 use Rattle.sheet.specs.declared.Shape.{Shape}
 use Rattle.sheet.proofs.Limits.{fits-sheet}

@@ -1,21 +1,21 @@
 -- The numbers of rows after a drawing: a row that no figure has a cell in keeps its number, and so does each outside their rectangle.
 use Prim.Native.Nat.{ℕ, _≤_, _<_}
-use mathlib.Core.Path.{_≡_, refl, sym, ap, _∙_}
+use mathlib.Core.Path.{_≡_, refl, ap, _∙_}
 use mathlib.Core.List.{List, [], _∷_}
 use mathlib.Core.Logic.{_⊎_, inl, inr}
-use mathlib.Core.Bool.{Bool, true, false, cond, not}
+use mathlib.Core.Bool.{Bool, false, cond, not}
 use native.Mathlib.Omega.{arith}
-use lib.Dec.{T, eqb}
-use lib.ListN.{length, getD}
+use lib.Dec.{eqb}
+use lib.ListN.{getD}
 use Rattle.laws.proofs.Below.{count-as}
 use Rattle.laws.proofs.Tests.{is-false, is-true}
 use Rattle.sheet.specs.Sheet.{place, cellOf, paint}
-use Rattle.sheet.specs.Repaint.{nothing, join, boxOf, Holds, Within}
+use Rattle.sheet.specs.Repaint.{join, boxOf, Holds, Within}
 use Rattle.sheet.specs.Drawing.{Inked, paintAll, boxAll}
 use Rattle.sheet.specs.Inner.{Sheet}
 use Rattle.sheet.specs.declared.Shape.{Shape}
 use Rattle.sheet.specs.declared.repaint.Rectangle.{Rectangle}
-use Rattle.sheet.proofs.Boxes.{box-holds, box-within, join-within, within-left, within-right}
+use Rattle.sheet.proofs.Boxes.{box-holds, box-within, within-left, within-right}
 use Rattle.sheet.proofs.Cells.{on-sheet, place-below}
 use Rattle.sheet.proofs.Paint.{paint-cell, paint-length}
 use Rattle.tally.specs.Tally.{rowCount}

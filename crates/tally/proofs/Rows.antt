@@ -6,13 +6,13 @@ use mathlib.Core.Logic.{_⊎_, inl, inr}
 use mathlib.Core.Bool.{Bool, true, false, cond, not, _&&_, true≢false}
 use native.Mathlib.Omega.{arith}
 use native.Mathlib.Decide.{ℕ-discrete, decLe, decLt}
-use borrow.Author.Tests.{eq-eqb, ne-eqb, eqb-true, le-leb, lt-leb, lt-ltb, le-ltb, leb-true, ltb-true}
+use borrow.Author.Tests.{eq-eqb, ne-eqb, eqb-true, le-leb, lt-leb, lt-ltb, le-ltb}
 use lib.Dec.{T, eqb, leb, ltb}
 use lib.ListN.{length, getD, set, length-set}
 use lib.Seq.{ext-getD}
 use Rattle.laws.specs.Below.{any}
 use Rattle.laws.proofs.Below.{any-at, any→}
-use Rattle.laws.proofs.Tests.{is-true, is-false, from-true, same-true, halves}
+use Rattle.laws.proofs.Tests.{is-true, is-false, from-true}
 use Rattle.sheet.specs.Sheet.{byPlace}
 use Rattle.sheet.specs.declared.Shape.{Shape}
 use Rattle.sheet.proofs.Places.{length-by, getD-by, by-as, by-none, by-then, by-one}

@@ -1,5 +1,4 @@
 -- `fill::fill_rows` meets its contract.
-use native.Mathlib.Omega.{arith}
 use borrow.Author.Needs.{needs}
 use Rattle.fill.proofs.Spanning.{piece-small, rows-told}
 use Rattle.fill.proofs.fill_rows.Statement.{statement}

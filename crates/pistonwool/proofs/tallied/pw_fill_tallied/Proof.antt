@@ -1,6 +1,4 @@
 -- `pistonwool::tallied::pw_fill_tallied` meets its contract.
-use lib.ListN.{length}
-use denote.Ref.{now}
 use Rattle.pistonwool.proofs.Forms.{fill-tells}
 use Rattle.pistonwool.proofs.Listed.{beside-tells, by-number}
 use Rattle.pistonwool.proofs.Told.{cell-back, fills-small, fills-count}

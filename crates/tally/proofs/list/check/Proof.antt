@@ -1,5 +1,5 @@
 -- `tally::list::check` meets its contract.
-use mathlib.Core.Path.{_≡_, refl, sym, ap, _∙_}
+use mathlib.Core.Path.{_≡_, sym, ap, _∙_}
 use mathlib.Core.List.{[]}
 use mathlib.Core.Bool.{Bool, true}
 use lib.ListN.{length}

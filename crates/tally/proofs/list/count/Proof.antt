@@ -1,5 +1,4 @@
 -- `tally::list::count` meets its contract.
-use Prim.Native.Nat.{_≤_}
 use mathlib.Core.Path.{_≡_, sym, ap, _∙_}
 use mathlib.Core.List.{[]}
 use mathlib.Core.Bool.{true}

@@ -1,12 +1,8 @@
 -- `tally::list::count_rows` meets its contract.
 use Prim.Native.Nat.{_+_, _-_, _≤_}
-use mathlib.Core.Path.{_≡_, refl, sym, ap, _∙_}
+use mathlib.Core.Path.{refl, _∙_}
 use native.Mathlib.Omega.{arith}
-use lib.ListN.{length, length-set, set}
-use Rattle.sheet.specs.declared.Shape.{Shape}
 use Rattle.fill.proofs.Rows.{row-ends, row-small}
-use Rattle.tally.specs.Inner.{countedRows}
-use Rattle.tally.proofs.Inked.{row-inked}
 use Rattle.tally.proofs.Rows.{Lists, lists-none, lists-one, counted-end}
 use borrow.Author.Needs.{needs}
 use Rattle.tally.proofs.list.count_rows.Statement.{statement}

@@ -1,7 +1,6 @@
 -- `tally::territory::fill` meets its contract.
 use mathlib.Core.Path.{refl, sym}
 use denote.Ref.{now}
-use lib.ListN.{length}
 use Rattle.laws.proofs.Tests.{no}
 use Rattle.tally.proofs.Beside.{Listed, no-list, is-list, fill-list-refused, fill-beside, fill-rows, may-count, counted-rows}
 use borrow.Author.Needs.{needs}
