@@ -57,9 +57,12 @@ unfoldable pub refusal : ℕ → ℕ → List ℕ
 refusal number offset =
     (114 ∷ 101 ∷ 102 ∷ 117 ∷ 115 ∷ 101 ∷ 100 ∷ 32 ∷ []) ++ decimal number ++ (32 ∷ 97 ∷ 116 ∷ 32 ∷ []) ++ decimal offset ++ newline
 
--- `input too long`
+-- `input ` and `input too long`
+abbrev pub input : List ℕ
+input = 105 ∷ 110 ∷ 112 ∷ 117 ∷ 116 ∷ 32 ∷ []
+
 abbrev pub tooLong : List ℕ
-tooLong = (105 ∷ 110 ∷ 112 ∷ 117 ∷ 116 ∷ 32 ∷ 116 ∷ 111 ∷ 111 ∷ 32 ∷ 108 ∷ 111 ∷ 110 ∷ 103 ∷ []) ++ newline
+tooLong = input ++ (116 ∷ 111 ∷ 111 ∷ 32 ∷ 108 ∷ 111 ∷ 110 ∷ 103 ∷ []) ++ newline
 
 -- the picture of what was drawn, or the line of the refusal with its offset
 abbrev pub printed : Answer → List ℕ → List ℕ
@@ -74,8 +77,7 @@ textOf file =
 
 -- `input cannot be read`, of which document 01 does not speak
 abbrev pub unreadable : List ℕ
-unreadable =
-    (105 ∷ 110 ∷ 112 ∷ 117 ∷ 116 ∷ 32 ∷ 99 ∷ 97 ∷ 110 ∷ 110 ∷ 111 ∷ 116 ∷ 32 ∷ 98 ∷ 101 ∷ 32 ∷ 114 ∷ 101 ∷ 97 ∷ 100 ∷ []) ++ newline
+unreadable = input ++ (99 ∷ 97 ∷ 110 ∷ 110 ∷ 111 ∷ 116 ∷ 32 ∷ 98 ∷ 101 ∷ 32 ∷ 114 ∷ 101 ∷ 97 ∷ 100 ∷ []) ++ newline
 
 -- Of an input that cannot be read to its end nothing is drawn.
 unfoldable pub replyOf : Bool → List ℕ → List ℕ

@@ -6,7 +6,8 @@ use mathlib.Core.Bool.{Bool, true, false, cond}
 use lib.ListN.{length}
 use Rattle.sheet.specs.Repaint.{nothing}
 use Rattle.sheet.specs.Reply.{Answer, refuse, withBox, isDone, settled}
-use Rattle.sheet.specs.Drawing.{paintAll, boxAll, Drawing, Paints, telling, Draws}
+use Rattle.sheet.specs.Drawing.{Inked, paintAll, boxAll, Drawing, Paints, telling, Draws}
+use Rattle.sheet.specs.declared.Shape.{Shape}
 use Rattle.sheet.specs.declared.Refusal.{Refusal}
 use Rattle.sheet.specs.declared.repaint.Rectangle.{Rectangle}
 use Rattle.sheet.proofs.Unique.{number-not-0, one-value}
@@ -26,6 +27,12 @@ module _ (d : Drawing) (s : List ℕ) where
   -- two replies to one asking on the same bytes are equal, and so are the bytes they leave
   pub draws-one : (a b : Answer) (t u : List ℕ) → Paints d s a t → Paints d s b u → (a ≡ b) × (t ≡ u)
   draws-one a b t u h g = (one-value a b _ (h .tells) (g .tells), one-value t u _ (h .leaves) (g .leaves))
+
+-- a drawing with another answer that is the same on these bytes
+pub answer-as : (k : Shape) (figures : List Inked) (f g : ℕ → Answer) (s : List ℕ) (b : Answer) (t : List ℕ) → f (length s) ≡ g (length s)
+    → Paints (record { shape = k; answer = f; figures = figures }) s b t → Paints (record { shape = k; answer = g; figures = figures }) s b t
+answer-as k figures f g s b t e h =
+    record { tells = h .tells ∙ e; leaves = h .leaves ∙ ap (λ (a : Answer). settled a (paintAll k figures s) s) e }
 
 -- what a drawing tells, with its rectangle
 module _ (d : Drawing) (s : List ℕ) where

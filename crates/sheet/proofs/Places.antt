@@ -1,10 +1,11 @@
 -- Lists changed place by place: the laws of `byPlace`.
 use Prim.Native.Nat.{ℕ, zero, suc, _<_}
-use mathlib.Core.Path.{_≡_, refl, _∙_, ap, ap₂}
+use mathlib.Core.Path.{_≡_, refl, sym, _∙_, ap, ap₂}
 use mathlib.Core.List.{List, [], _∷_}
 use mathlib.Core.Bool.{cond}
 use native.Mathlib.Omega.{arith}
 use lib.ListN.{length, getD, set}
+use lib.Seq.{ext-getD}
 use lib.Dec.{eqb, eqb·zero-suc, eqb·suc-zero, eqb·suc-suc}
 use Rattle.sheet.specs.Sheet.{byPlace}
 
@@ -34,6 +35,12 @@ unfolding byPlace
 by-as f g [] h = refl
 by-as f g (v ∷ s) h =
     ap₂ _∷_ (h 0 v (omega arith)) (by-as (λ (n : ℕ). f (suc n)) (λ (n : ℕ). g (suc n)) s (λ n v l. h (suc n) v (omega arith)))
+
+-- changes that come to the same of what stands in each place
+pub by-at : (f g : ℕ → ℕ → ℕ) (s : List ℕ) → ((n : ℕ) → n < length s → f n (getD s n 0) ≡ g n (getD s n 0)) → byPlace f s ≡ byPlace g s
+by-at f g s h =
+    ext-getD 0 (byPlace f s) (byPlace g s) (length-by f s ∙ sym (length-by g s))
+    (λ n l. let m : n < length s = omega (arith, length-by f s) in getD-by f s n m ∙ h n m ∙ sym (getD-by g s n m))
 
 -- no change
 pub by-none : (s : List ℕ) → byPlace (λ (n v : ℕ). v) s ≡ s

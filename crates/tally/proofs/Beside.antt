@@ -10,13 +10,13 @@ use lib.ListN.{length, getD}
 use Rattle.laws.proofs.Tests.{no, yes}
 use Rattle.sheet.specs.Repaint.{nothing}
 use Rattle.sheet.specs.Reply.{Answer, done, withBox, isDone, settled}
-use Rattle.sheet.specs.Drawing.{Inked, paintAll, boxAll, Drawing, Paints, telling, Draws}
+use Rattle.sheet.specs.Drawing.{paintAll, boxAll, Drawing, Paints, telling, Draws}
 use Rattle.sheet.specs.Inner.{fits, Sheet}
 use Rattle.sheet.specs.declared.Cell.{Cell}
 use Rattle.sheet.specs.declared.Shape.{Shape}
 use Rattle.sheet.specs.declared.repaint.Rectangle.{Rectangle}
 use Rattle.sheet.proofs.Boxes.{box-only}
-use Rattle.sheet.proofs.Draws.{keeps, kept}
+use Rattle.sheet.proofs.Draws.{keeps, kept, answer-as}
 use Rattle.sheet.proofs.Limits.{fits-sheet}
 use Rattle.fill.specs.Fill.{FillsAs, Fills, FillsRows, fillDrawing}
 use Rattle.sheet.specs.declared.Figure.{Figure}
@@ -74,12 +74,6 @@ module _ (form : Answer → Answer) (same : Keeping form) (d : Drawing) (lent ro
   list-refused b f =
       let e : isDone b ≡ false = ap isDone f ∙ formed in
       (kept (beside form lent rows d) lent (form a) b f formed (ap form (is (d .answer (length lent)))), sym (simp e))
-
--- a drawing with another answer that is the same on these bytes
-answer-as : (k : Shape) (figures : List Inked) (f g : ℕ → Answer) (s : List ℕ) (b : Answer) (t : List ℕ) → f (length s) ≡ g (length s)
-    → Paints (record { shape = k; answer = f; figures = figures }) s b t → Paints (record { shape = k; answer = g; figures = figures }) s b t
-answer-as k figures f g s b t e h =
-    record { tells = h .tells ∙ e; leaves = h .leaves ∙ ap (λ (a : Answer). settled a (paintAll k figures s) s) e }
 
 -- beside a list that is right
 module _ (form : Answer → Answer) (d : Drawing) (lent rows : List ℕ) (L : Listed (d .shape) lent rows)

@@ -13,6 +13,7 @@ use Rattle.sheet.specs.Drawing.{ifSheet, Drawing, Draws}
 use Rattle.sheet.specs.Inner.{fits}
 use Rattle.sheet.specs.declared.Shape.{Shape}
 use Rattle.sheet.proofs.Empty.{Both}
+use Rattle.drawing.proofs.Nothing.{small}
 use Rattle.fill.specs.Fill.{FillsAs}
 use Rattle.fill.proofs.Examples.{fill-draws}
 use Rattle.tally.specs.Tally.{rowCount, tallyOf, right, ifPlaces, ifTally, recounted, Counts, beside, plain}
@@ -20,9 +21,6 @@ use Rattle.tally.proofs.Beside.{Listed, Keeping, draws-without}
 use Rattle.tally.proofs.Every.{fill-as-without}
 use Rattle.tally.proofs.Kept.{right-of}
 use Rattle.tally.proofs.Tests.{if-tally}
-
-abbrev small : Shape
-small = record { width = 1; height = 1; pitch = 1 }
 
 abbrev none : List ℕ
 none = 0 ∷ []

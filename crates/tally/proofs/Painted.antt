@@ -17,22 +17,14 @@ use Rattle.sheet.specs.declared.Shape.{Shape}
 use Rattle.sheet.specs.declared.repaint.Rectangle.{Rectangle}
 use Rattle.sheet.proofs.Boxes.{box-holds, box-within, within-left, within-right}
 use Rattle.sheet.proofs.Cells.{on-sheet, place-below}
+use Rattle.sheet.proofs.Limits.{still-sheet}
 use Rattle.sheet.proofs.Paint.{paint-cell, paint-length}
 use Rattle.tally.specs.Tally.{rowCount}
 use Rattle.tally.specs.Kept.{Clear, none, also}
 
 -- a sheet that is painted is a sheet
 painted-sheet : (k : Shape) (s : List ℕ) (f : Inked) → Sheet k s → Sheet k (paint k (f .ink) (f .figure) s)
-painted-sheet k s f z =
-    record {
-      area = paint-length k (f .ink) (f .figure) s ∙ z .area;
-      broad = z .broad;
-      wide = z .wide;
-      deep = z .deep;
-      high = z .high;
-      disjoint = z .disjoint;
-      far = z .far;
-    }
+painted-sheet k s f z = still-sheet k s (paint k (f .ink) (f .figure) s) (paint-length k (f .ink) (f .figure) s) z
 
 pub all-sheet : (k : Shape) (fs : List Inked) (s : List ℕ) → Sheet k s → Sheet k (paintAll k fs s)
 all-sheet k [] s z = z

@@ -9,22 +9,15 @@ use native.Mathlib.Decide.{ℕ-discrete, decLe, decLt}
 use borrow.Author.Tests.{eq-eqb, ne-eqb, eqb-true, le-leb, lt-leb, lt-ltb, le-ltb}
 use lib.Dec.{T, eqb, leb, ltb}
 use lib.ListN.{length, getD, set, length-set}
-use lib.Seq.{ext-getD}
 use Rattle.laws.specs.Below.{any}
 use Rattle.laws.proofs.Below.{any-at, any→}
 use Rattle.laws.proofs.Tests.{is-true, is-false, from-true}
 use Rattle.sheet.specs.Sheet.{byPlace}
 use Rattle.sheet.specs.declared.Shape.{Shape}
-use Rattle.sheet.proofs.Places.{length-by, getD-by, by-as, by-none, by-then, by-one}
+use Rattle.sheet.proofs.Places.{by-as, by-at, by-none, by-then, by-one}
 use Rattle.tally.specs.Tally.{rowCount, tallyOf, right}
 use Rattle.tally.specs.Inner.{inked, countedRows}
 use Rattle.tally.proofs.Inked.{row-inked}
-
--- changes that come to the same of what stands in each place
-pub by-at : (f g : ℕ → ℕ → ℕ) (s : List ℕ) → ((n : ℕ) → n < length s → f n (getD s n 0) ≡ g n (getD s n 0)) → byPlace f s ≡ byPlace g s
-by-at f g s h =
-    ext-getD 0 (byPlace f s) (byPlace g s) (length-by f s ∙ sym (length-by g s))
-    (λ n l. let m : n < length s = omega (arith, length-by f s) in getD-by f s n m ∙ h n m ∙ sym (getD-by g s n m))
 
 module _ (k : Shape) (s rows : List ℕ) where
   other : ℕ → Bool
