@@ -1,7 +1,9 @@
 pub mod Apart
 pub mod Below
+pub mod Each
 pub mod Floor
 pub mod Ints
 pub mod Parts
 pub mod Products
 pub mod Tests
+pub mod Written

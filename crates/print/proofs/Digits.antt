@@ -10,7 +10,7 @@ use lib.Dec.{ltb, lit<}
 use borrow.Author.Tests.{ltb-true, ltb-false, lt-ltb}
 use Rattle.laws.proofs.Products.{lt-or-ge}
 use Rattle.io.specs.Digits.{glyph, digits, Fewest}
-use Rattle.print.specs.Text.{decimalIn, decimal}
+use Rattle.laws.specs.Text.{decimalIn, decimal}
 
 -- a digit below 10
 glyph-is : (d : ℕ) → d < 10 → glyph d ≡ 48 + d

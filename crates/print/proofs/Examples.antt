@@ -11,7 +11,8 @@ use Rattle.sheet.proofs.Empty.{Differ}
 use Rattle.record.specs.Reading.{foundAt, readAt}
 use Rattle.record.specs.File.{readIn, readFrom, readAll, fileAnswer}
 use Rattle.drawing.specs.File.{drawFileAnswer}
-use Rattle.print.specs.Text.{inTurn, zeros, characterAt, line, picture, decimalIn, decimal, refusal, textOf, replyOf}
+use Rattle.laws.specs.Text.{decimalIn, decimal}
+use Rattle.print.specs.Text.{inTurn, zeros, characterAt, line, picture, refusal, textOf, replyOf}
 
 -- 0, 10, 4083
 pub some-decimals : (decimal 0 ≡ 48 ∷ []) × (decimal 10 ≡ 49 ∷ 48 ∷ []) × (decimal 4083 ≡ 52 ∷ 48 ∷ 56 ∷ 51 ∷ [])

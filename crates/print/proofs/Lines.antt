@@ -7,7 +7,8 @@ use lib.ListN.{length, getD, set, length-append}
 use lib.Seq.{sets}
 use Rattle.sheet.specs.Sheet.{place}
 use Rattle.print.specs.Text.{inTurn, character, newline, characterAt, line, picture}
-use Rattle.print.proofs.Writing.{Turns, sets-append, length-in-turn}
+use Rattle.laws.proofs.Written.{sets-append}
+use Rattle.print.proofs.Writing.{Turns, length-in-turn}
 
 -- a cell is one byte, a line 17, a picture 136
 pub cell-long : (s : List ℕ) (y x : ℕ) → length (characterAt s y x) ≡ 1

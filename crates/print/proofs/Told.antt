@@ -11,8 +11,9 @@ use Rattle.sheet.specs.Reply.{Answer, isDone, valueOf}
 use Rattle.sheet.specs.Drawing.{paintAll, telling, Draws}
 use Rattle.sheet.proofs.Draws.{drawn as drawn-whole}
 use Rattle.drawing.specs.File.{figuresIn, drawFileAnswer, fileDrawing}
-use Rattle.print.specs.Text.{sheet, zeros, picture, refusal, tooLong, printed, textOf, unreadable, replyOf, writtenOver}
-use Rattle.print.proofs.Writing.{Written, write-ends}
+use Rattle.laws.specs.Text.{writtenOver}
+use Rattle.print.specs.Text.{sheet, zeros, picture, refusal, tooLong, printed, textOf, unreadable, replyOf}
+use Rattle.laws.proofs.Written.{Written, write-ends}
 
 -- what is answered of a file, and what is drawn of one that is not refused
 abbrev answer : List ℕ → Answer

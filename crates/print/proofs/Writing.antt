@@ -1,47 +1,14 @@
--- Texts written one after the other: `sets l at p` is the list l with p written from place `at` on.
+-- Parts of a text, written byte by byte and in turn: `sets l at p` is the list l with p written from place `at` on.
 use Prim.Native.Nat.{ℕ, zero, suc, _+_, _*_, _≤_, _<_}
 use mathlib.Core.Path.{_≡_, refl, sym, ap, _∙_}
-use mathlib.Core.List.{List, [], _∷_, _++_}
+use mathlib.Core.List.{List, _++_}
 use native.Mathlib.Omega.{arith}
-use native.Mathlib.Nat.{add-zero, zero-add}
+use native.Mathlib.Nat.{add-zero}
 use native.Mathlib.Numerals.{add-one}
 use lib.ListN.{length, getD, set, drop, length-set, length-append, drop-of-length-le}
-use lib.Seq.{sets, length-sets, sets-eq, drop-cons}
+use lib.Seq.{sets, length-sets, drop-cons}
+use Rattle.laws.proofs.Written.{sets-append}
 use Rattle.print.specs.Text.{inTurn}
-
--- two parts written in turn are one
-pub sets-append : (p q l : List ℕ) (at : ℕ) → sets l at (p ++ q) ≡ sets (sets l at p) (at + length p) q
-sets-append [] q l at = ap (λ (k : ℕ). sets l k q) (sym (add-zero at))
-sets-append (v ∷ p) q l at =
-    let e : suc at + length p ≡ at + suc (length p) = omega arith in
-    sets-append p q (set l at v) (suc at) ∙ ap (λ (k : ℕ). sets (sets (set l at v) (suc at) p) k q) e
-
--- a text is written from the start, and the next place is its length
-pub record Written (before text out : List ℕ) (next : ℕ) : Type 0 where
-  pub bytes : out ≡ sets before 0 text
-  pub long : next ≡ length text
-
-pub write-first : (before part after : List ℕ) (end : ℕ) → after ≡ sets before 0 part → end ≡ 0 + length part → Written before part after end
-write-first before part after end e f = record { bytes = e; long = omega arith }
-
--- and then a part more
-pub write-next : (before text out : List ℕ) (next : ℕ) → Written before text out next → (part after : List ℕ) (end : ℕ) → after ≡ sets out next part → end ≡ next + length part
-    → Written before (text ++ part) after end
-write-next before text out next w part after end e f =
-    let g : next ≡ 0 + length text = omega (arith, w .long) in
-    record {
-      bytes = e
-          ∙ ap (λ (o : List ℕ). sets o next part) (w .bytes)
-          ∙ ap (λ (k : ℕ). sets (sets before 0 text) k part) g
-          ∙ sym (sets-append text part before 0);
-      long = omega (arith, length-append text part, w .long);
-    }
-
--- the written text, and the rest as before
-pub write-ends : (before text out : List ℕ) (next : ℕ) → Written before text out next → next ≤ length before
-    → (next ≡ length text) × (out ≡ text ++ drop (length text) before)
-write-ends before text out next w l =
-    (w .long, w .bytes ∙ sets-eq text before 0 (omega (arith, w .long)) ∙ ap (λ (k : ℕ). text ++ drop k before) (zero-add (length text)))
 
 -- a part of which i bytes are written
 pub record Copying (before : List ℕ) (at : ℕ) (part out : List ℕ) (i : ℕ) : Type 0 where

@@ -1,9 +1,10 @@
 -- Document 01, last part of "Record file": the text that the printing program prints for the bytes of its input.
-use Prim.Native.Nat.{ℕ, zero, suc, _+_, _/_, _%_}
+use Prim.Native.Nat.{ℕ, zero, suc}
 use mathlib.Core.List.{List, [], _∷_, _++_}
 use mathlib.Core.Bool.{Bool, cond}
-use lib.Dec.{leb, ltb, eqb}
-use lib.ListN.{length, drop, getD, replicate}
+use lib.Dec.{leb, eqb}
+use lib.ListN.{length, getD, replicate}
+use Rattle.laws.specs.Text.{decimal}
 use Rattle.sheet.specs.Sheet.{bytes, place, cellOf}
 use Rattle.sheet.specs.Reply.{Answer, valueOf, settled}
 use Rattle.sheet.specs.Drawing.{paintAll}
@@ -43,15 +44,6 @@ line s y = inTurn 16 (characterAt s y) ++ newline
 unfoldable pub picture : List ℕ → List ℕ
 picture s = inTurn 8 (line s)
 
--- a number below 10 is one digit, any other that of its tenths before that of its ones: at most n digits
-unfoldable pub decimalIn : ℕ → ℕ → List ℕ
-decimalIn zero v = []
-decimalIn (suc n) v = cond (ltb v 10) ((48 + v) ∷ []) (decimalIn n (v / 10) ++ ((48 + v % 10) ∷ []))
-
--- a number in decimal digits
-unfoldable pub decimal : ℕ → List ℕ
-decimal v = decimalIn (suc v) v
-
 -- `refused`, a blank, the number, ` at `, the offset
 unfoldable pub refusal : ℕ → ℕ → List ℕ
 refusal number offset =
@@ -82,7 +74,3 @@ unreadable = input ++ (99 ∷ 97 ∷ 110 ∷ 110 ∷ 111 ∷ 116 ∷ 32 ∷ 98 �
 -- Of an input that cannot be read to its end nothing is drawn.
 unfoldable pub replyOf : Bool → List ℕ → List ℕ
 replyOf whole file = cond whole (textOf file) unreadable
-
--- a text written over the beginning of lent bytes
-abbrev pub writtenOver : List ℕ → List ℕ → List ℕ
-writtenOver text before = text ++ drop (length text) before

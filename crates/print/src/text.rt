@@ -3,7 +3,8 @@ ghost use Prim.Native.Nat.{_+_, _*_, _≤_, _<_};
 ghost use mathlib.Core.Path.{_≡_};
 ghost use lib.ListN.{length};
 ghost use lib.Seq.{sets};
-ghost use Rattle.print.specs.Text.{character, line, picture, decimal, refusal, textOf, unreadable, replyOf, writtenOver};
+ghost use Rattle.laws.specs.Text.{decimal, writtenOver};
+ghost use Rattle.print.specs.Text.{character, line, picture, refusal, textOf, unreadable, replyOf};
 use sheet::Shape;
 
 // Writes a part at a place, and answers the place after it.

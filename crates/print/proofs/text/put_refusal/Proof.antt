@@ -3,8 +3,9 @@ use Prim.Native.Nat.{_≤_}
 use mathlib.Core.List.{[], _∷_}
 use native.Mathlib.Omega.{arith}
 use denote.Ref.{now}
-use Rattle.print.specs.Text.{newline, decimal, refusal}
-use Rattle.print.proofs.Writing.{write-first, write-next}
+use Rattle.laws.specs.Text.{decimal}
+use Rattle.print.specs.Text.{newline, refusal}
+use Rattle.laws.proofs.Written.{write-first, write-next}
 use borrow.Author.Needs.{needs}
 use Rattle.print.proofs.text.put_refusal.Statement.{statement}
 use Rattle.print.proofs.text.put_refusal.Tie as tie

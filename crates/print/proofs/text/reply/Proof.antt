@@ -3,7 +3,7 @@ use native.Mathlib.Omega.{arith}
 use denote.Ref.{now}
 use Rattle.print.specs.Text.{textOf, unreadable, replyOf}
 use Rattle.print.proofs.Told.{reply-whole, reply-failed, begins}
-use Rattle.print.proofs.Writing.{write-first, write-ends}
+use Rattle.laws.proofs.Written.{write-first, write-ends}
 use borrow.Author.Needs.{needs}
 use Rattle.print.proofs.text.reply.Statement.{statement}
 use Rattle.print.proofs.text.reply.Tie as tie

@@ -6,7 +6,7 @@ use Rattle.laws.proofs.Tests.{no, yes}
 use Rattle.print.specs.Text.{picture, refusal, tooLong}
 use Rattle.print.proofs.Lines.{picture-long}
 use Rattle.print.proofs.Told.{text-too-long, text-drawn, text-refused, prints}
-use Rattle.print.proofs.Writing.{write-first}
+use Rattle.laws.proofs.Written.{write-first}
 use borrow.Author.Needs.{needs}
 use Rattle.print.proofs.text.text.Statement.{statement}
 use Rattle.print.proofs.text.text.Tie as tie

@@ -1,7 +1,7 @@
 -- `record::rescuing::put` meets its contract.
 use borrow.Author.Needs.{needs}
 use denote.Ref.{now}
-use Rattle.record.proofs.Puts.{put-from}
+use Rattle.laws.proofs.Written.{put-from}
 use Rattle.record.proofs.rescuing.put.Statement.{statement}
 use Rattle.record.proofs.rescuing.put.Tie as tie
 
