@@ -5,15 +5,15 @@ use mathlib.Core.List.{List}
 use mathlib.Core.Bool.{Bool, not, _&&_}
 use native.Mathlib.Omega.{arith}
 use native.Mathlib.Decide.{decLe}
-use native.Mathlib.Nat.{mul-le-mul, mul-le-mul-right, mul-comm}
+use native.Mathlib.Nat.{mul-le-mul-right, mul-comm}
 use borrow.Author.Tests.{eq-eqb, ne-eqb}
 use lib.Dec.{eqb}
-use lib.ListN.{length, getD}
+use lib.ListN.{getD}
 use lib.IntN.{pos, natAbs, _-ℤ_}
 use Rattle.laws.proofs.Below.{count-range}
 use Rattle.laws.proofs.Ints.{parts}
 use Rattle.sheet.specs.Sheet.{bytes, onSheet, place, cellOf, cellAt, held, cellsOn}
-use Rattle.sheet.specs.Inner.{Sheet, Disjoint}
+use Rattle.sheet.specs.Inner.{Disjoint}
 use Rattle.sheet.specs.declared.Cell.{Cell}
 use Rattle.sheet.specs.declared.Shape.{Shape}
 use Rattle.sheet.proofs.Cells.{on-sheet, place-cell-at}
@@ -32,14 +32,6 @@ module _ (x y u v : ℕ) where
 
   pub of-side : Side (cellOf x y) (cellOf u v) → u - x + (x - u) + (v - y + (y - v)) ≡ 1
   of-side e = sym (ap₂ _+_ (far u x) (far v y)) ∙ e
-
--- a row of the sheet ends within it
-pub row-ends : {k : Shape} {s : List ℕ} → Sheet k s → (y : ℕ) → y < k .height → y * k .pitch + k .pitch ≤ length s
-row-ends {k} S y l = omega (arith, S .area, mul-le-mul-right (k .pitch) l, mul-comm (k .pitch) (k .height))
-
--- and begins below 2^25
-pub row-small : {k : Shape} {s : List ℕ} → Sheet k s → (y : ℕ) → y < k .height → y * k .pitch ≤ 33554432
-row-small {k} S y l = mul-le-mul {n₁ = y} {m₁ = k .pitch} {n₂ = 4096} {m₂ = 8192} (omega (arith, S .high)) (S .far)
 
 module _ {k : Shape} {b : ℕ} {s : List ℕ} where
   pub open-cell : {x y : ℕ} → x < k .width → y < k .height → (Shut k b s x y → ⊥) → Open k b s (cellOf x y)

@@ -4,7 +4,7 @@ use mathlib.Core.Path.{_≡_, refl, subst, ap, _∙_}
 use mathlib.Core.List.{List}
 use mathlib.Core.Bool.{Bool, true, false, not, Bool·beq, _&&_, _||_}
 use native.Mathlib.Omega.{arith}
-use native.Mathlib.Nat.{mul-le-mul}
+use native.Mathlib.Nat.{mul-le-mul, mul-le-mul-right, mul-comm}
 use borrow.Author.Tests.{le-leb, eq-eqb}
 use lib.ListN.{length}
 use lib.Dec.{T, leb, eqb, leb→le, eqb→eq, eqb·suc-zero}
@@ -72,6 +72,14 @@ sheet-fits k s z =
 -- as many bytes are a sheet too
 pub still-sheet : (k : Shape) (s t : List ℕ) → length t ≡ length s → Sheet k s → Sheet k t
 still-sheet k s t e z = fits-sheet k t (ap (fits k) e ∙ sheet-fits k s z)
+
+-- a row of the sheet ends within it
+pub row-ends : {k : Shape} {s : List ℕ} → Sheet k s → (y : ℕ) → y < k .height → y * k .pitch + k .pitch ≤ length s
+row-ends {k} S y l = omega (arith, S .area, mul-le-mul-right (k .pitch) l, mul-comm (k .pitch) (k .height))
+
+-- and begins below 2^25
+pub row-small : {k : Shape} {s : List ℕ} → Sheet k s → (y : ℕ) → y < k .height → y * k .pitch ≤ 33554432
+row-small {k} S y l = mul-le-mul {n₁ = y} {m₁ = k .pitch} {n₂ = 4096} {m₂ = 8192} (omega (arith, S .high)) (S .far)
 
 -- a coordinate within the limits, by its parts
 pub limit-low : (z : ℤ) → coordinate z ≡ true → dn z ≤ 16384

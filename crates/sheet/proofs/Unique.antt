@@ -15,7 +15,7 @@ use Rattle.sheet.specs.Repaint.{nothing}
 use Rattle.sheet.specs.Reply.{Answer, number, told, withBox, toldDrawn, isDone}
 use Rattle.sheet.specs.declared.Drawn.{Drawn}
 use Rattle.sheet.specs.declared.Refusal.{Refusal}
-use Rattle.sheet.specs.declared.Refusal.the-variants.{Size, Coordinate, Radius, Pieces, Room, Survey, NoCell, Short, Kind, Length, Full, Slice, Kindless, Work, Start, Places, Tally}
+use Rattle.sheet.specs.declared.Refusal.the-variants.{Size, Coordinate, Radius, Pieces, Room, Survey, NoCell, Short, Kind, Length, Full, Buffer, Header, Pixels, Slice, Kindless, Work, Start, Places, Tally}
 use Rattle.sheet.specs.declared.Reply.{Reply}
 use Rattle.sheet.specs.declared.Reply.the-variants.{Done, Counted, Refused, RefusedAt}
 use Rattle.sheet.proofs.Refusal.{parts, make}
@@ -43,6 +43,9 @@ number-finds Short = refl
 number-finds Kind = refl
 number-finds Length = refl
 number-finds Full = refl
+number-finds Buffer = refl
+number-finds Header = refl
+number-finds Pixels = refl
 number-finds Slice = refl
 number-finds Kindless = refl
 number-finds Work = refl

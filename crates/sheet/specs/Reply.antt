@@ -6,7 +6,7 @@ use lib.Dec.{eqb}
 use lib.IntN.{ℤ, pos, natAbs}
 use lib.ListN.{getD}
 use Rattle.sheet.specs.declared.Refusal.{Refusal}
-use Rattle.sheet.specs.declared.Refusal.the-variants.{Size, Coordinate, Radius, Pieces, Room, Survey, NoCell, Short, Kind, Length, Full, Slice, Kindless, Work, Start, Places, Tally}
+use Rattle.sheet.specs.declared.Refusal.the-variants.{Size, Coordinate, Radius, Pieces, Room, Survey, NoCell, Short, Kind, Length, Full, Buffer, Header, Pixels, Slice, Kindless, Work, Start, Places, Tally}
 use Rattle.sheet.specs.declared.Drawn.{Drawn}
 use Rattle.sheet.specs.declared.Reply.{Reply}
 use Rattle.sheet.specs.declared.Reply.the-variants.{Done, Counted, Refused, RefusedAt}
@@ -26,6 +26,9 @@ number Short = 8
 number Kind = 9
 number Length = 10
 number Full = 11
+number Buffer = 12
+number Header = 13
+number Pixels = 14
 number Slice = 15
 number Kindless = 16
 number Work = 17

@@ -70,6 +70,12 @@ pub enum Refusal {
     Length,
     // 11: the free bytes of a buffer are fewer than the record takes.
     Full,
+    // 12: a buffer has fewer bytes than the picture takes.
+    Buffer,
+    // 13: a picture's header breaks the rules of raw PBM, or names another size than the sheet's.
+    Header,
+    // 14: a picture has fewer bytes after its header than its rows take.
+    Pixels,
     // 15: the slice length differs from pitch × height.
     Slice,
     // 16: record length under 2, so that it has no kind.
@@ -101,6 +107,9 @@ impl Refusal {
             Refusal::Kind => 9,
             Refusal::Length => 10,
             Refusal::Full => 11,
+            Refusal::Buffer => 12,
+            Refusal::Header => 13,
+            Refusal::Pixels => 14,
             Refusal::Slice => 15,
             Refusal::Kindless => 16,
             Refusal::Work => 17,
@@ -114,7 +123,7 @@ impl Refusal {
 // The reply of a drawing, of a listing and of a file.
 pub enum Reply {
     Done,
-    // how many: a line's or a territory's cells on the sheet, those listed, a file's records
+    // how many: a line's or a territory's cells on the sheet, those listed, a file's records, a picture's bytes
     Counted(usize),
     Refused(Refusal),
     // and the offset in a file of the field that it names

@@ -6,7 +6,7 @@ use borrow.Author.Tests.{eqb-false}
 use native.Mathlib.Omega.{arith}
 use borrow.Author.Needs.{needs}
 use Rattle.fill.specs.Inner.{Ahead, spot}
-use Rattle.fill.proofs.Rows.{row-ends, row-small}
+use Rattle.sheet.proofs.Limits.{row-ends, row-small}
 use Rattle.fill.proofs.Growing.{ready-again}
 use Rattle.fill.proofs.Walking.{Scanning, scanning-none, scanning-more, scanning-shut, scanning-end, scanned-off}
 use Rattle.fill.proofs.scan.Statement.{statement}

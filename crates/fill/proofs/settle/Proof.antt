@@ -5,7 +5,7 @@ use native.Mathlib.Omega.{arith}
 use borrow.Author.Needs.{needs}
 use Rattle.fill.specs.Inner.{total, Settled}
 use Rattle.fill.proofs.Pieces.{total-none, total-more, total-most}
-use Rattle.fill.proofs.Rows.{row-ends, row-small}
+use Rattle.sheet.proofs.Limits.{row-ends, row-small}
 use Rattle.fill.proofs.Flooding.{settled-none, settled-more}
 use Rattle.fill.proofs.settle.Statement.{statement}
 use Rattle.fill.proofs.settle.Tie as tie

@@ -1,7 +1,7 @@
 -- `fill::take` meets its contract.
 use native.Mathlib.Omega.{arith}
 use borrow.Author.Needs.{needs}
-use Rattle.fill.proofs.Rows.{row-ends, row-small}
+use Rattle.sheet.proofs.Limits.{row-ends, row-small}
 use Rattle.fill.proofs.Growing.{run-fits, run-taken}
 use Rattle.fill.proofs.take.Statement.{statement}
 use Rattle.fill.proofs.take.Tie as tie

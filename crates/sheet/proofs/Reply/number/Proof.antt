@@ -31,7 +31,7 @@ returns-2 : tie.Need-returns-2
 returns-2 c = search needs
 
 returns-3 : tie.Need-returns-3
-returns-3 c = search needs
+returns-3 c = c .number .ensures ∙ ap (λ (r : Reply). told r .number) (sym (c .before .before .self .given .1))
 
 returns-4 : tie.Need-returns-4
 returns-4 c = c .number2 .ensures ∙ ap (λ (r : Reply). told r .number) (sym (c .before .before .self2 .given .1))

@@ -2,7 +2,7 @@
 use Prim.Native.Nat.{_+_, _-_, _≤_}
 use mathlib.Core.Path.{refl, _∙_}
 use native.Mathlib.Omega.{arith}
-use Rattle.fill.proofs.Rows.{row-ends, row-small}
+use Rattle.sheet.proofs.Limits.{row-ends, row-small}
 use Rattle.tally.proofs.Rows.{Lists, lists-none, lists-one, counted-end}
 use borrow.Author.Needs.{needs}
 use Rattle.tally.proofs.list.count_rows.Statement.{statement}

@@ -2,7 +2,7 @@
 use Prim.Native.Nat.{_-_, _≤_}
 use mathlib.Core.Path.{_∙_, sym}
 use native.Mathlib.Omega.{arith}
-use Rattle.fill.proofs.Rows.{row-ends, row-small}
+use Rattle.sheet.proofs.Limits.{row-ends, row-small}
 use Rattle.tally.proofs.Inked.{row-inked}
 use Rattle.tally.proofs.Rows.{Holds, holds-none, holds-one, right-all, right-not}
 use borrow.Author.Needs.{needs}
