@@ -1,0 +1,5 @@
+pub mod Header
+pub mod Inner
+pub mod Page
+pub mod Picture
+pub mod Reading
