@@ -94,7 +94,7 @@ pub record Value (v : List ℤ) : Type 0 where
   pub n : ℕ
   pub is : v ≡ pos n ∷ []
 
-value-told : (a : Answer) → Tells Value a → (n v before : ℕ) → n ≡ a .number → v ≡ settled a (valueOf a) before → (a ≡ counted n v) × Keeps n before v
+pub value-told : (a : Answer) → Tells Value a → (n v before : ℕ) → n ≡ a .number → v ≡ settled a (valueOf a) before → (a ≡ counted n v) × Keeps n before v
 value-told _ (Tells.refused r) n v before e f =
     let no : eqb (number r) 0 ≡ false = number-not-0 r in
     (rw e (simp no), λ z. f ∙ simp no)

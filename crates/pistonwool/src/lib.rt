@@ -1,5 +1,5 @@
-// What C and Rust link: the drawings on numbers and slices, with a tally or without, the pen, writing records and rescuing a
-// damaged file.
+// What C and Rust link: the drawings on numbers and slices, with a tally or without, the pen, writing records, rescuing a
+// damaged file, and pictures.
 // Each answers a number of the table; but a pen that is asked answers 1 for a cell and 0 for finished.
 ghost use mathlib.Core.Path.{_≡_};
 ghost use Prim.Native.Nat.{_-_, _<_};
@@ -10,6 +10,7 @@ mod cells;
 mod file;
 mod metres;
 mod pen;
+mod picture;
 mod rescuing;
 mod tallied;
 mod territory;
@@ -25,6 +26,8 @@ pub use metres::pw_ellipse_metres;
 pub use metres::pw_line_metres;
 pub use pen::pw_pen_begin;
 pub use pen::pw_pen_next;
+pub use picture::pw_read_pbm;
+pub use picture::pw_write_pbm;
 pub use rescuing::pw_rescue;
 use sheet::Drawn;
 use sheet::Reply;

@@ -8,8 +8,8 @@ ghost use Rattle.pistonwool.specs.Told.{counted, Keeps};
 use sheet::Cell;
 use sheet::Reply;
 
-// Tells the reply of a writer: its number, and the new count in filled where it is done.
-fn tell_filled(reply: Reply, filled: &mut u64) -> u32
+// Tells the reply of a writer: its number, and how many bytes of the buffer are filled where it is done.
+pub(crate) fn tell_filled(reply: Reply, filled: &mut u64) -> u32
     ensures { λ r. ⌜ (r ≡ told reply .number)
         × (now (filled .exit) ≡ settled (told reply) (valueOf (told reply)) (now (filled .entry))) ⌝ }
 {
