@@ -18,6 +18,9 @@
  * the last that it set a cell in, and touches no other place. So it costs a pass over the sheet: who keeps no list uses the
  * forms without.
  *
+ * A sheet goes out as a raw PBM picture, one bit for each cell, and a picture comes in onto a sheet of its size (pw_write_pbm,
+ * pw_read_pbm; examples/picture.c).
+ *
  * A window, a part of a larger sheet of this pitch that begins at (x, y) and is w by h, is a sheet too (examples/window.c):
  *     pw_line(sheet + (size_t)y * pitch + x, (size_t)pitch * h, w, h, pitch, ink, ...)
  * Its length counts its last row whole, so one that ends in the larger sheet's last row can be lent only if x is 0, or if x
@@ -39,7 +42,7 @@
 #include <stdint.h>
 
 /* the version of this header and of the library installed with it */
-#define PW_VERSION "0.4.1"
+#define PW_VERSION "0.4.2"
 
 #if SIZE_MAX != UINT64_MAX
 #error "Pistonwool is for 64-bit machines only"
@@ -50,8 +53,8 @@ extern "C" {
 #endif
 
 /* What each number is given for. Where several apply, the first in this order: 1, 15; then with a tally 19, 20; then for a fill
- * 17, 18; for figures in metres 6, 7; for a record 8, 16, 9, 10; then 2, 3, 4; 5 of a listing is last, and so is 11 of a record
- * that is written; for a rescue 11, 5. */
+ * 17, 18; for figures in metres 6, 7; for a record 8, 16, 9, 10; then 2, 3, 4; 5 of a listing is last, and so are 11 of a
+ * record and 12 of a picture that is written; of a picture that is read 13, 14; for a rescue 11, 5. */
 enum pw_reply {
     /* done */
     PW_DONE = 0,
@@ -77,6 +80,12 @@ enum pw_reply {
     PW_LENGTH = 10,
     /* a buffer with fewer free bytes than the record takes, or with fewer bytes than the file to be rescued */
     PW_FULL = 11,
+    /* a buffer with fewer bytes than the picture takes */
+    PW_BUFFER = 12,
+    /* a picture whose header breaks the rules of raw PBM, or names another size than the sheet's */
+    PW_HEADER = 13,
+    /* a picture with fewer bytes after its header than its rows take */
+    PW_PIXELS = 14,
     /* a slice length other than pitch x height */
     PW_SLICE = 15,
     /* a record length under 2, which leaves no room for a kind */
@@ -183,6 +192,27 @@ uint32_t pw_write_cubic(uint8_t *buffer, size_t len, uint64_t *filled, uint8_t i
  * Lend n bytes or more for the copy (else PW_FULL), and n places or more in each list (else PW_ROOM). */
 uint32_t pw_rescue(const uint8_t *file, size_t n, uint8_t *copy, size_t room, uint64_t *offsets, size_t no,
                    uint64_t *numbers, size_t nn, uint64_t *copied, uint64_t *listed);
+
+/* Writes a sheet as a raw PBM picture: P4, a newline, the width, a blank, the height, a newline; then each row from the top down
+ * in (width + 7) / 8 bytes, a bit for each cell, the highest bit leftmost: 1, which is black, where the cell is nonzero, and 0
+ * elsewhere and in the bits after the last cell. *bytes is then how many bytes these are; bytes of the buffer after them keep
+ * what they held. The sheet is only read, and its padding not at all.
+ * Lend the picture's bytes or more (else PW_BUFFER): 13 + height * ((width + 7) / 8) are enough for every sheet. */
+uint32_t pw_write_pbm(const uint8_t *sheet, size_t len, uint32_t width, uint32_t height, uint32_t pitch,
+                      uint8_t *picture, size_t room, uint64_t *bytes);
+
+/* Reads a raw PBM picture, lent with n bytes, onto a sheet of the same size: each cell is then 1 where its bit is 1, and 0
+ * elsewhere. Bits after a row's last cell are ignored, and bytes after the last row are not looked at.
+ * Its header (else PW_HEADER) is P4, one or more blanks, the width, one or more blanks, the height, and exactly one blank, after
+ * which the rows begin. A blank is a space, TAB, LF, VT, FF or CR. The sizes are decimal, with any number of leading zeros, and
+ * must be the sheet's. A comment, from a # through the next CR or LF, may stand anywhere before the last blank, before and inside
+ * P4 and inside a number too. It is skipped whole and is no blank: "1#" newline "2" is 12, and after "2#" newline the blank that
+ * ends the header is still to come. Where bytes of the rows are missing, PW_PIXELS is given.
+ * These are the rules of Netpbm's page. Netpbm's tools (seen with 11.01) take a comment for the newline at its end, need no blank
+ * after P4, and take any byte for the blank after a number; they refuse a comment before or inside P4, and a VT or FF that does
+ * not follow a number. A comment right after a space, TAB, LF or CR is read alike by both. */
+uint32_t pw_read_pbm(uint8_t *sheet, size_t len, uint32_t width, uint32_t height, uint32_t pitch,
+                     const uint8_t *picture, size_t n);
 
 /* The same figures in metres, by a survey: the origins east and north, and the size of a cell.
  *
