@@ -12,16 +12,16 @@
 #include <sys/stat.h>
 #include <unistd.h>
 
+#include "desk.h"
 #include "pistonwool.h"
 
-enum { ROOM = 1 << 24, TRIES = 100 };
+enum { TRIES = 100 };
 
 /* what each number is given for, in the header's words */
 static const char *const meanings[] = {
 #include "meanings.h"
 };
 
-static uint8_t file[ROOM + 1]; /* with a byte more, which shows that a file is too large */
 static uint8_t *copy;
 static uint64_t *offsets, *numbers;
 static uint64_t copied, listed, records;
@@ -38,7 +38,7 @@ static void hold(void) { sigprocmask(SIG_BLOCK, &endings, &before); }
 static void release(void) { sigprocmask(SIG_SETMASK, &before, NULL); }
 
 /* Says in one line why there is no new file, or what became of it, and ends. */
-_Noreturn static void stop(const char *format, ...) {
+_Noreturn void stop(const char *format, ...) {
     va_list words;
     hold();
     va_start(words, format);
@@ -73,9 +73,7 @@ static void watch(void) {
         if (signal(ends[i], SIG_IGN) != SIG_IGN)
             sigaction(ends[i], &action, NULL);
     }
-    /* a reader that went away and a limit on files are to fail as a full disk does */
-    signal(SIGPIPE, SIG_IGN);
-    signal(SIGXFSZ, SIG_IGN);
+    outlive();
 }
 
 static const char already[] = "%s is there already; a new name is asked for";
@@ -87,35 +85,6 @@ static void ask_new(const char *sound) {
         stop(already, sound);
     if (errno != ENOENT)
         stop("%s cannot be written: %s", sound, strerror(errno));
-}
-
-/* Reads the file, and answers how many bytes it has. */
-static size_t read_file(const char *damaged) {
-    int given = strcmp(damaged, "-") == 0;
-    const char *name = given ? "standard input" : damaged;
-    int from = given ? STDIN_FILENO : open(damaged, O_RDONLY | O_CLOEXEC);
-    size_t n = 0;
-    ssize_t got = from;
-    while (got >= 0 || errno == EINTR) {
-        got = read(from, file + n, sizeof file - n);
-        if (got == 0)
-            break;
-        n += got > 0 ? (size_t)got : 0;
-    }
-    if (got < 0)
-        stop("%s cannot be read: %s", name, strerror(errno));
-    if (n > ROOM)
-        stop("%s has more than %d bytes, for which there is no room; nothing is written", name, ROOM);
-    close(from);
-    return n;
-}
-
-/* Room for so many, and for one where there are none: what is lent must not be null. */
-static void *lent(size_t count, size_t size) {
-    void *room = malloc((count + (count == 0)) * size);
-    if (!room)
-        stop("there is not enough memory; nothing is written");
-    return room;
 }
 
 /* Copies what reads well, and counts its records by drawing them on a sheet of one cell. */
@@ -152,10 +121,7 @@ static int begin(const char *sound) {
 /* Writes the copy to the disk, beside the new name. */
 static void write_beside(const char *sound) {
     int to = begin(sound);
-    ssize_t put = to;
-    for (uint64_t done = 0; put >= 0 && done < copied; done += put > 0 ? (uint64_t)put : 0)
-        put = write(to, copy + done, copied - done);
-    if (put < 0 || fsync(to) != 0 || close(to) != 0)
+    if (to < 0 || !write_bytes(to, copy, copied) || fsync(to) != 0 || close(to) != 0)
         stop("%s cannot be written: %s", sound, strerror(errno));
 }
 
