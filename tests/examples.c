@@ -1,6 +1,6 @@
 /* examples.c: the checked examples of document 01 that are not starred, those of rings with axes of 0, of cubics, of writing
- * records, of rescuing them, of rectangles to repaint and of tallies, each by its words through the library; the last line
- * counts. */
+ * records, of rescuing them, of rectangles to repaint, of tallies and of pictures, each by its words through the library; the
+ * last line counts. */
 #include <stdio.h>
 #include <string.h>
 
@@ -422,6 +422,7 @@ int main(void) {
     rescues();
     repaints();
     tallies();
+    pictures();
 
     printf("%d passed, %d failed\n", passed, failed);
     return failed != 0;

@@ -18,5 +18,7 @@ uint32_t append(int kind, const int64_t *n, size_t len);
 void repaints(void);
 /* the tallies that are kept beside sheets */
 void tallies(void);
+/* the pictures that sheets are written as and read from */
+void pictures(void);
 
 #endif
