@@ -17,6 +17,7 @@ pub mod many;
 pub mod metres;
 pub mod native;
 mod native_tally;
+pub mod pbm;
 pub mod pen;
 pub mod random;
 #[cfg(test)]

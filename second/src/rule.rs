@@ -1,6 +1,7 @@
 //! The rules of drawing, each replaceable, and the order of the refusals.
 use crate::figure::{cubic, line_cells, on_circle, on_ellipse};
 use crate::native::Fill;
+use crate::pbm::Pbm;
 use crate::repaint::{Rectangle, Repainter};
 use crate::rescue::Rescuer;
 use crate::tally::Tallier;
@@ -99,6 +100,8 @@ pub struct Rules {
     pub repainter: Repainter,
     /// What keeps a tally of a sheet's rows.
     pub tallier: Tallier,
+    /// What writes and reads pictures.
+    pub pbm: Pbm,
 }
 
 impl Rules {
@@ -124,6 +127,7 @@ impl Rules {
             rescuer: Rescuer::document(),
             repainter: Repainter::document(),
             tallier: Tallier::document(),
+            pbm: Pbm::document(),
         }
     }
 
