@@ -3,6 +3,7 @@ use crate::again::{Again, Thrown};
 use crate::ground::Ground;
 use crate::metres::{Metres, Survey};
 use crate::native::{Cells, Fill, Pen};
+use crate::pictured::{self, Pictured};
 use crate::rescued::Rescue;
 use crate::rule::Shape;
 use crate::tallied::{Call, Held, List, Tallied};
@@ -45,6 +46,8 @@ pub enum Job {
     Rescue(Rescue),
     /// A drawing or fill is lent a list beside its sheet, or the sheet is counted afresh.
     Tallied(Tallied),
+    /// A sheet is written as a picture, or a picture is read onto it.
+    Pictured(Pictured),
 }
 
 /// A job, and the seed of what the lent buffers hold before it.
@@ -63,7 +66,7 @@ pub const MOST_PLACES: usize = 40_000;
 pub const MOST_WORK: usize = 4096 * 4096 + 40;
 
 /// The most bytes that a random case lends in a buffer to write to.
-pub const MOST_BUFFER: usize = 1 << 19;
+pub const MOST_BUFFER: usize = 1 << 22;
 
 /// The most bytes of a random file that is rescued: its case is still short enough for a word of a command.
 pub const MOST_RESCUED: usize = 65_000;
@@ -97,6 +100,8 @@ impl Job {
             Job::Tallied(Tallied { call: Call::Kept(job), .. }) => {
                 return Cow::Owned(format!("{}_tallied", job.name()))
             }
+            Job::Pictured(Pictured { call: pictured::Call::Write(_), .. }) => "write_pbm",
+            Job::Pictured(Pictured { call: pictured::Call::Read(..), .. }) => "read_pbm",
         })
     }
 
@@ -107,6 +112,7 @@ impl Job {
             Job::Again(again) => Some(again.size),
             Job::Rescue(rescue) => Some(rescue.size),
             Job::Tallied(tallied) => tallied.size(),
+            Job::Pictured(pictured) => Some(pictured.size),
             Job::List(..) | Job::Begin(_) | Job::Next(_) | Job::Write(..) => None,
         }
     }
@@ -203,6 +209,10 @@ impl fmt::Display for Job {
             Job::Rescue(Rescue { size, lengths, file }) => write!(to, " {size}{} {}", words(lengths), digits(file)),
             Job::Tallied(Tallied { list, call: Call::Afresh(size) }) => write!(to, " {list} {size}"),
             Job::Tallied(Tallied { list, call: Call::Kept(job) }) => write!(to, " {list}{job}"),
+            Job::Pictured(Pictured { size, call }) => match call {
+                pictured::Call::Write(room) => write!(to, " {size} {room}"),
+                pictured::Call::Read(head, more) => write!(to, " {size} {more} {}", digits(head)),
+            },
         }
     }
 }
@@ -242,7 +252,7 @@ fn figure(name: &str, words: &mut SplitWhitespace) -> Result<Cells, String> {
 
 /// A job that is lent no sheet.
 fn without_sheet(name: &str, words: &mut SplitWhitespace) -> Result<Option<Job>, String> {
-    if let Some(written) = name.strip_prefix("write_") {
+    if let Some(written) = name.strip_prefix("write_").filter(|written| *written != "pbm") {
         return Ok(Some(Job::Write(number(words)?, number(words)?, number(words)?, figure(written, words)?)));
     }
     Ok(Some(match name {
@@ -295,6 +305,14 @@ fn kept(name: &str, words: &mut SplitWhitespace) -> Result<Job, String> {
     }
 }
 
+/// A sheet that is written as a picture or read from one, after the sheet.
+fn pictured(size: Size, name: &str, words: &mut SplitWhitespace) -> Result<Job, String> {
+    let count = number(words)?;
+    let write = name == "write_pbm";
+    let call = if write { pictured::Call::Write(count) } else { pictured::Call::Read(bytes(words)?, count) };
+    Ok(Job::Pictured(Pictured { size, call }))
+}
+
 fn size(words: &mut SplitWhitespace) -> Result<Size, String> {
     Ok(Size { len: number(words)?, width: number(words)?, height: number(words)?, pitch: number(words)? })
 }
@@ -329,6 +347,7 @@ fn job(name: &str, words: &mut SplitWhitespace) -> Result<Job, String> {
         "again" => again(size, words),
         "rescue" => Ok(Job::Rescue(Rescue { size, lengths: numbers(words)?, file: bytes(words)? })),
         "file" => Ok(Job::File(size, bytes(words)?)),
+        "write_pbm" | "read_pbm" => pictured(size, name, words),
         _ if name.ends_with("_metres") => metres(size, name, words),
         _ => Ok(Job::Cells(size, number(words)?, figure(name, words)?)),
     }
@@ -352,7 +371,8 @@ mod tests {
     fn a_case_is_read_back_as_it_was_written() {
         for seed in 0..2000 {
             let makes = [Case::figure, Case::file, Case::damaged, Case::pen, Case::fill, Case::write, Case::again];
-            for case in makes.map(|make| make(seed)).into_iter().chain([Case::rescue(seed), Case::tallied(seed)]) {
+            let more = [Case::rescue, Case::tallied, Case::pictured];
+            for case in makes.iter().chain(&more).map(|make| make(seed)) {
                 let text = case.to_string();
                 let again: Case = text.parse().unwrap();
                 assert_eq!(again.to_string(), text);

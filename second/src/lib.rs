@@ -5,6 +5,8 @@ pub mod chance;
 mod chance_crossing;
 mod chance_file;
 mod chance_fill;
+mod chance_header;
+mod chance_picture;
 mod chance_rescue;
 mod chance_tally;
 mod chance_write;
@@ -19,6 +21,7 @@ pub mod native;
 mod native_tally;
 pub mod pbm;
 pub mod pen;
+pub mod pictured;
 pub mod random;
 #[cfg(test)]
 mod rectangles;

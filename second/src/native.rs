@@ -36,6 +36,10 @@ mod declared {
                               x1: i32, y1: i32, x2: i32, y2: i32, x3: i32, y3: i32, s: u32) -> u32;
         pub fn pw_rescue(file: *const u8, n: usize, copy: *mut u8, room: usize, offsets: *mut u64, no: usize,
                          numbers: *mut u64, nn: usize, copied: *mut u64, listed: *mut u64) -> u32;
+        pub fn pw_write_pbm(sheet: *const u8, len: usize, width: u32, height: u32, pitch: u32,
+                            picture: *mut u8, room: usize, bytes: *mut u64) -> u32;
+        pub fn pw_read_pbm(sheet: *mut u8, len: usize, width: u32, height: u32, pitch: u32,
+                           picture: *const u8, n: usize) -> u32;
         pub fn pw_line_metres(sheet: *mut u8, len: usize, width: u32, height: u32, pitch: u32, ink: u8,
                               east: f64, north: f64, size: f64,
                               x0: f64, y0: f64, x1: f64, y1: f64, cells: *mut u32, rectangle: *mut Rectangle) -> u32;
@@ -188,4 +192,18 @@ pub fn rescue(
     let (numbers, nn) = (numbers.as_mut_ptr(), numbers.len());
     // SAFETY: as in `file`.
     unsafe { declared::pw_rescue(file.as_ptr(), file.len(), copy, room, offsets, no, numbers, nn, copied, listed) }
+}
+
+pub fn write_pbm(lent: Lent, picture: &mut [u8], bytes: &mut u64) -> u32 {
+    let Lent { bytes: sheet, width: w, height: h, pitch } = lent;
+    let (picture, room) = (picture.as_mut_ptr(), picture.len());
+    // SAFETY: as in `draw`; the library only reads the sheet.
+    unsafe { declared::pw_write_pbm(sheet.as_ptr(), sheet.len(), w, h, pitch, picture, room, bytes) }
+}
+
+pub fn read_pbm(lent: Lent, picture: &[u8]) -> u32 {
+    let Lent { bytes: sheet, width: w, height: h, pitch } = lent;
+    let (picture, n) = (picture.as_ptr(), picture.len());
+    // SAFETY: as in `draw`; the library only reads the picture.
+    unsafe { declared::pw_read_pbm(sheet.as_mut_ptr(), sheet.len(), w, h, pitch, picture, n) }
 }

@@ -101,7 +101,8 @@ fn every_drawing_is_compared_in_its_rectangle() {
     let repainter = Repainter { told: |_, _, _| WRONG, refused: WRONG, refused_file: WRONG };
     let mut room = Room::default();
     for seed in 0..1000 {
-        for make in [Case::figure, Case::file, Case::damaged, Case::rescue, Case::fill, Case::write, Case::tallied] {
+        let others = [Case::rescue, Case::fill, Case::write, Case::tallied, Case::pictured];
+        for make in [Case::figure, Case::file, Case::damaged].into_iter().chain(others) {
             let case = make(seed);
             let (number, _) = room.compare(&right, &case).unwrap();
             let draws = match case.job.without_list().unwrap_or(&case.job) {

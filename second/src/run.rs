@@ -7,6 +7,7 @@ use crate::guard::{Against, Guarded};
 use crate::native::{self, Cells, Lent};
 use crate::native_tally;
 use crate::pen;
+use crate::pictured;
 use crate::random::Random;
 use crate::repaint::Rectangle;
 use crate::rescue::Rescued;
@@ -29,10 +30,11 @@ pub struct Room {
     rectangle: Guarded,
     pen: pen::Room,
     rescue: rescued::Room,
+    picture: pictured::Room,
 }
 
 /// What a case leaves behind: reply, value or filled count, the lent box, the sheet, the work slice, the buffer that is
-/// written to, the two lists, that of the tally, each call of a pen, and what a rescue was lent.
+/// written to or the picture that is read, the two lists, that of the tally, each call of a pen, and what a rescue was lent.
 #[derive(Default)]
 pub(crate) struct Outcome {
     pub number: u32,
@@ -40,7 +42,7 @@ pub(crate) struct Outcome {
     pub rectangle: Rectangle,
     pub sheet: Vec<u8>,
     work: Vec<u32>,
-    buffer: Vec<u8>,
+    pub buffer: Vec<u8>,
     lists: [Vec<i32>; 2],
     pub rows: Vec<u32>,
     calls: Vec<pen::Call>,
@@ -61,13 +63,13 @@ impl Default for Room {
             rectangle: Guarded::with_room(16),
             pen: pen::Room::default(),
             rescue: rescued::Room::default(),
+            picture: pictured::Room::default(),
         }
     }
 }
 
 impl Room {
-    /// Draws a case both ways: the reply that both gave and whether its sheet or its tally changed or, where it has no sheet,
-    /// a buffer, list or pen; or what differs.
+    /// Draws a case both ways: the reply that both gave and whether what was lent changed; or what differs.
     pub fn compare(&mut self, rules: &Rules, case: &Case) -> Result<(u32, bool), String> {
         let before = Outcome::before(case.held, &case.job);
         let mut expected = Outcome::before(case.held, &case.job);
@@ -85,14 +87,7 @@ impl Room {
                 same("call", &calls, &expected.calls)?;
             }
         }
-        let pen = |outcome: &Outcome| outcome.calls.first().map(|call| call.pen);
-        let changed = match case.job.size() {
-            Some(_) => expected.sheet != before.sheet || expected.rows != before.rows,
-            None => {
-                expected.buffer != before.buffer || expected.lists != before.lists || pen(&expected) != pen(&before)
-            }
-        };
-        Ok((expected.number, changed))
+        Ok((expected.number, expected.changed(&before, &case.job)))
     }
 
     fn by_library(
@@ -167,6 +162,10 @@ impl Room {
                 (copied.map_or(expected.number, |copied| native::file(lent, &copied, value, rectangle)), *value)
             }
             Job::Tallied(_) => (native_tally::tally(Lent { bytes: sheet, width, height, pitch }, rows), before.value),
+            Job::Pictured(pictured) => {
+                let bytes = &mut self.value.lend_copy(&[before.value], against)[0];
+                (pictured.by_library(sheet, buffer, bytes), *bytes)
+            }
         };
         same("reply", &[number], &[expected.number])?;
         same("value", &[value], &[expected.value])?;
@@ -179,6 +178,9 @@ impl Room {
         }
         same("byte", sheet, &expected.sheet)?;
         same("byte of the buffer", buffer, &expected.buffer)?;
+        if let (Job::Pictured(pictured), 0) = (job, number) {
+            self.picture.and_back(rules, pictured, sheet, (buffer, value), against)?;
+        }
         // a done fill may leave anything in its work slice, a refused one what was there
         if number != 0 {
             same("work", work, &expected.work)?;
@@ -208,8 +210,8 @@ impl Outcome {
     pub(crate) fn before(held: u64, job: &Job) -> Outcome {
         let mut random = Random(held);
         // an export that tells its value in 32 bits is lent 32 bits
-        let most =
-            if matches!(job, Job::File(..) | Job::Again(_) | Job::Rescue(_)) { u64::MAX } else { u64::from(u32::MAX) };
+        let long = matches!(job, Job::File(..) | Job::Again(_) | Job::Rescue(_) | Job::Pictured(_));
+        let most = if long { u64::MAX } else { u64::from(u32::MAX) };
         let mut value = random.number() & most;
         let (mut sheet, mut work, mut buffer) = (Vec::new(), Vec::new(), Vec::new());
         let (mut lists, mut calls, mut rescued) = ([Vec::new(), Vec::new()], Vec::new(), Rescued::default());
@@ -238,9 +240,21 @@ impl Outcome {
                 rescued = Rescued::before(&mut random, *lengths);
             }
             Job::Tallied(tallied) => return tallied.before(held),
+            Job::Pictured(pictured) => [sheet, buffer] = pictured.before(&mut random),
         }
         let rectangle = [(); 4].map(|()| random.number() as u32);
         Outcome { number: 0, value, rectangle, sheet, work, buffer, lists, rows: Vec::new(), calls, rescued }
+    }
+
+    /// Whether it differs from what was lent: in the sheet, the tally or the picture or, without a sheet, in a buffer, list or
+    /// pen.
+    fn changed(&self, before: &Outcome, job: &Job) -> bool {
+        let pen = |outcome: &Outcome| outcome.calls.first().map(|call| call.pen);
+        match job {
+            Job::Pictured(_) => self.sheet != before.sheet || self.buffer != before.buffer,
+            _ if job.size().is_some() => self.sheet != before.sheet || self.rows != before.rows,
+            _ => self.buffer != before.buffer || self.lists != before.lists || pen(self) != pen(before),
+        }
     }
 
     pub(crate) fn by_rules(&mut self, rules: &Rules, job: &Job) {
@@ -272,6 +286,7 @@ impl Outcome {
             }
             Job::Again(again) => again.by_rules(rules, &mut sheet, &mut self.buffer),
             Job::Rescue(rescue) => rescue.by_rules(rules, &mut sheet, &mut self.rescued),
+            Job::Pictured(pictured) => pictured.by_rules(rules, &mut sheet, &mut self.buffer),
             Job::List(_, ends) | Job::Begin(ends) => {
                 let [x0, y0, x1, y1] = ends.map(i64::from);
                 let [xs, ys] = &mut self.lists;

@@ -92,7 +92,7 @@ impl List {
 }
 
 /// Clears bytes of a sheet: none or all, those of the cells or of the padding alone, or many of them.
-fn clear(random: &mut Random, sheet: &mut Sheet) {
+pub(crate) fn clear(random: &mut Random, sheet: &mut Sheet) {
     let Shape { width, pitch, .. } = sheet.shape;
     let (way, chances) = (random.number() % 16, random.bytes(sheet.bytes.len()));
     for (i, (byte, chance)) in sheet.bytes.iter_mut().zip(chances).enumerate() {

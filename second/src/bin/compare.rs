@@ -1,9 +1,9 @@
 //! Compares the proved library with the second drawing program on random figures, files, damaged files, pens, fills,
-//! writes of one figure, files that are read and written again, rescues of damaged files, and tallies that drawings and
-//! fills keep or that are counted afresh.
+//! writes of one figure, files that are read and written again, rescues of damaged files, tallies that drawings and fills
+//! keep or that are counted afresh, and pictures that sheets are written as or read from.
 //!
 //!     compare [KIND] [COUNT] [SEED]    COUNT cases of each kind, or of this one: figures, files, damaged, pens, fills,
-//!                                      writes, again, rescues, tallies
+//!                                      writes, again, rescues, tallies, pictures
 //!     compare --one CASE               one case, as a difference prints it
 //!     compare --teeth                  wrong second programs, each of which must be caught
 use second::case::{Case, Job};
@@ -28,7 +28,7 @@ const PATIENCE: u64 = 100_000;
 type Make = fn(u64) -> Case;
 
 /// Each kind of case: the word that asks for it, and what its cases are called.
-const KINDS: [(&str, &str, Make); 9] = [
+const KINDS: [(&str, &str, Make); 10] = [
     ("figures", "figures", Case::figure),
     ("files", "files", Case::file),
     ("damaged", "damaged files", Case::damaged),
@@ -38,6 +38,7 @@ const KINDS: [(&str, &str, Make); 9] = [
     ("again", "files again", Case::again),
     ("rescues", "rescues", Case::rescue),
     ("tallies", "tallies", Case::tallied),
+    ("pictures", "pictures", Case::pictured),
 ];
 
 thread_local! {
@@ -71,7 +72,7 @@ fn case(make: Make, seed: u64, i: u64) -> Case {
     make(nth_seed(seed, i))
 }
 
-/// How often an export gave each reply, how often it changed a sheet, buffer, list or pen, and how often a sheet with padding.
+/// How often an export gave each reply, how often it changed what was lent, and how often beside a sheet with padding.
 #[derive(Default)]
 struct Seen {
     replies: [u64; 21],
