@@ -15,6 +15,8 @@ pub mod figure;
 pub mod file;
 pub mod ground;
 pub mod guard;
+#[cfg(test)]
+mod headers;
 pub mod many;
 pub mod metres;
 pub mod native;
@@ -22,6 +24,8 @@ mod native_tally;
 pub mod pbm;
 pub mod pen;
 pub mod pictured;
+#[cfg(test)]
+mod pictures;
 pub mod random;
 #[cfg(test)]
 mod rectangles;
