@@ -2,6 +2,7 @@
 use crate::figure::{cells_from, cubic, in_column, line_cells, on_circle, on_ellipse};
 use crate::rule::{asked, bad_fields, no_sheet, place, refusal, Bad, Cell, Figure, Rules, Shape, Sheet, Told};
 use crate::teeth_fill::wrong_fills;
+use crate::teeth_pbm::wrong_pictures;
 use crate::teeth_repaint::wrong_repainters;
 use crate::teeth_rescue::wrong_rescuers;
 use crate::teeth_tally::wrong_talliers;
@@ -10,7 +11,7 @@ use crate::teeth_write::wrong_writers;
 /// Each with what is wrong in it.
 pub fn wrong_programs() -> Vec<(&'static str, Rules)> {
     let drawn = [wrong_figures(), wrong_fills(), wrong_repainters(), wrong_talliers()].concat();
-    [drawn, wrong_writers(), wrong_rescuers()].concat()
+    [drawn, wrong_writers(), wrong_rescuers(), wrong_pictures()].concat()
 }
 
 fn wrong_figures() -> Vec<(&'static str, Rules)> {
