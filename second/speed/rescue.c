@@ -64,14 +64,14 @@ static void same_rescue(void) {
     }
 }
 
-void rescue_row(size_t n) {
+void rescue_row(void) {
     static const struct figure none = {.kind = LINE};
     struct way ways[WAYS];
     size_t count = fill();
     same_rescue();
-    for (size_t w = 0; w < n; w++)
+    for (size_t w = 0; w < WAYS; w++)
         ways[w] = (struct way){.draw = unable, .figures = 1};
-    ways[0].draw = rescue;
-    ways[1].draw = rescue_plainly;
-    row("rescuing a damaged file", "record", NULL, ways, n, &none, count);
+    ways[OURS].draw = rescue;
+    ways[IN_C].draw = rescue_plainly;
+    row("rescuing a damaged file", "record", NULL, ways, &none, count);
 }

@@ -7,11 +7,11 @@
 #include "pistonwool.h"
 #include "table.h"
 
-/* the ways that ratios are told to, after ours: C, C by rows and, where it is there, OpenCV */
+/* the last way that a ratio is told to: C by rows or, where it is there, OpenCV */
 #ifdef OPENCV
-enum { BESIDE = 3 };
+enum { BESIDE = BY_OPENCV };
 #else
-enum { BESIDE = 2 };
+enum { BESIDE = IN_C_BY_ROWS };
 #endif
 enum { ROUNDS = 15, MOST = 20000, CELLS = 300000, RECORDS = 200, FAR = 500, COPIED = 1 << 26 };
 /* so many records that no processor has learnt their order by the last round */
@@ -138,13 +138,12 @@ static void told(double value, int digits) {
         printf(" | %.*f", digits, value);
 }
 
-void row(const char *name, const char *unit, struct sheet *s, struct way *ways, size_t n, const struct figure *figures,
-         size_t units) {
-    for (size_t w = 0; w < n; w++)
+void row(const char *name, const char *unit, struct sheet *s, struct way *ways, const struct figure *figures, size_t units) {
+    for (size_t w = 0; w < WAYS; w++)
         ways[w].best = -1;
     for (int round = 0; round < ROUNDS; round++)
-        for (size_t v = 0; v < n; v++) {
-            size_t w = round % 2 ? n - 1 - v : v; /* none always comes after the same one's use of the cache */
+        for (size_t v = 0; v < WAYS; v++) {
+            size_t w = round % 2 ? WAYS - 1 - v : v; /* none always comes after the same one's use of the cache */
             double ns = pass(s, &ways[w], figures);
             if (ns >= 0 && (ways[w].best < 0 || ns < ways[w].best))
                 ways[w].best = ns;
@@ -156,12 +155,12 @@ void row(const char *name, const char *unit, struct sheet *s, struct way *ways, 
         printf("-");
     if (s && s->pitch != s->side)
         printf(", pitch %u", s->pitch);
-    for (size_t w = 0; w < n; w++) {
+    for (size_t w = 0; w < WAYS; w++) {
         double ns = ways[w].best < 0 ? -1 : ways[w].best / (double)units;
         told(ns, ns < 0.1 ? 3 : 2); /* a time below a tenth has a digit more */
     }
-    for (size_t w = 1; w <= BESIDE; w++)
-        told(ways[w].best < 0 ? -1 : ways[0].best / ways[w].best, 2);
+    for (size_t w = IN_C; w <= BESIDE; w++)
+        told(ways[w].best < 0 ? -1 : ways[OURS].best / ways[w].best, 2);
     printf(" |\n");
     fflush(stdout);
 }
@@ -186,7 +185,7 @@ static void same_rings(struct sheet *s, const struct figure *rings, size_t count
 }
 
 /* figures of one kind */
-static void kind_row(enum kind kind, struct sheet *s, struct way *ways, size_t n) {
+static void kind_row(enum kind kind, struct sheet *s, struct way *ways) {
     static const char *const names[] = {[LINE] = "lines", [CIRCLE] = "circles", [ELLIPSE] = "ellipses",
         [CURVE] = "curves", [CUBIC] = "cubics", [LISTING] = "listing"};
     size_t count = 0, cells = 0;
@@ -196,14 +195,14 @@ static void kind_row(enum kind kind, struct sheet *s, struct way *ways, size_t n
     }
     if (kind == CIRCLE || kind == ELLIPSE)
         same_rings(s, figures, count);
-    for (size_t w = 0; w < n; w++)
+    for (size_t w = 0; w < WAYS; w++)
         ways[w].figures = count;
-    row(names[kind], "cell", s, ways, n, figures, cells);
+    row(names[kind], "cell", s, ways, figures, cells);
 }
 
 /* stops where a way does not fill the cells that the others do */
-static void same_cells(struct sheet *s, const struct way *ways, size_t n, const struct figure *fill, size_t cells) {
-    for (size_t w = 0; w < n; w++) {
+static void same_cells(struct sheet *s, const struct way *ways, const struct figure *fill, size_t cells) {
+    for (size_t w = 0; w < WAYS; w++) {
         size_t set = 0;
         memcpy(s->bytes, s->fresh, length(s));
         if (!ways[w].draw(s, fill))
@@ -218,47 +217,47 @@ static void same_cells(struct sheet *s, const struct way *ways, size_t n, const 
 }
 
 /* one fill on one kind of ground, again and again, but with no more than so many bytes copied */
-static void fill_row(enum ground ground, struct sheet *s, struct way *ways, size_t n) {
+static void fill_row(enum ground ground, struct sheet *s, struct way *ways) {
     static const char *const names[] = {[OPEN] = "fill of an open sheet", [SERPENTINE] = "fill of a serpentine",
         [LINES] = "fill between lines", [NOISE] = "fill in 30 % noise", [SQUARE] = "fill of a square of 32"};
     struct figure fill = lay(s, ground);
     size_t cells = territory(s, &fill), often = CELLS / cells + 1, most = COPIED / length(s) + 1;
-    same_cells(s, ways, n, &fill, cells);
+    same_cells(s, ways, &fill, cells);
     often = often < most ? often : most;
     for (size_t i = 0; i < often; i++)
         figures[i] = fill;
-    for (size_t w = 0; w < n; w++)
+    for (size_t w = 0; w < WAYS; w++)
         ways[w].figures = often;
-    row(names[ground], "cell", s, ways, n, figures, cells * often);
+    row(names[ground], "cell", s, ways, figures, cells * often);
 }
 
 /* the square only on the largest sheet, which a fill of few cells is not to pay for */
-static void fill_rows(struct sheet *s, struct way *ways, size_t n) {
+static void fill_rows(struct sheet *s, struct way *ways) {
     for (enum ground ground = OPEN; ground <= (s->side == 4096 ? SQUARE : NOISE); ground++)
-        fill_row(ground, s, ways, n);
+        fill_row(ground, s, ways);
 }
 
-static void far_rows(struct sheet *s, struct way *ways, size_t n) {
-    for (size_t w = 0; w < n; w++)
+static void far_rows(struct sheet *s, struct way *ways) {
+    for (size_t w = 0; w < WAYS; w++)
         ways[w].figures = FAR;
     for (size_t i = 0; i < FAR; i++)
         figures[i] = far_line((int32_t)s->side);
-    row("lines with far ends", "line", s, ways, n, figures, FAR);
+    row("lines with far ends", "line", s, ways, figures, FAR);
     for (size_t i = 0; i < FAR; i++)
         figures[i] = far_ring(i % 2 ? ELLIPSE : CIRCLE, (int32_t)s->side);
     same_rings(s, figures, FAR);
-    row("rings with far centres", "ring", s, ways, n, figures, FAR);
+    row("rings with far centres", "ring", s, ways, figures, FAR);
 }
 
-static void rows(struct sheet *s, struct way *ways, size_t n) {
+static void rows(struct sheet *s, struct way *ways) {
     if (s->pitch != s->side) {
-        kind_row(LINE, s, ways, n);
-        fill_row(OPEN, s, ways, n);
+        kind_row(LINE, s, ways);
+        fill_row(OPEN, s, ways);
         return;
     }
     for (enum kind kind = LINE; kind <= LISTING; kind++)
-        kind_row(kind, s, ways, n);
-    far_rows(s, ways, n);
+        kind_row(kind, s, ways);
+    far_rows(s, ways);
 
     size_t cells = 0;
     file_length = 0;
@@ -267,13 +266,13 @@ static void rows(struct sheet *s, struct way *ways, size_t n) {
         cells += cells_of(s, &figures[i]);
         record(&figures[i]);
     }
-    for (size_t w = 0; w < n; w++)
+    for (size_t w = 0; w < WAYS; w++)
         ways[w].figures = RECORDS;
-    row("a file's figures one by one", "cell", s, ways, n, figures, cells);
-    ways[0] = (struct way){.draw = whole_file, .figures = 1};
-    row("the file", "cell", s, ways, n, figures, cells);
-    ways[0].draw = pistonwool;
-    fill_rows(s, ways, n);
+    row("a file's figures one by one", "cell", s, ways, figures, cells);
+    ways[OURS] = (struct way){.draw = whole_file, .figures = 1};
+    row("the file", "cell", s, ways, figures, cells);
+    ways[OURS].draw = pistonwool;
+    fill_rows(s, ways);
 }
 
 /* ways of writing and of reading all records at once; those that write take the figures from this one on */
@@ -335,19 +334,19 @@ static void same_records(void) {
 }
 
 /* records of all kinds, which need no sheet */
-static void record_rows(size_t n) {
+static void record_rows(void) {
     struct way ways[WAYS];
-    for (size_t w = 0; w < n; w++)
+    for (size_t w = 0; w < WAYS; w++)
         ways[w] = (struct way){.draw = unable, .figures = 1};
     for (size_t i = 0; i < WRITTEN; i++)
         figures[i] = any((enum kind)between(LINE, CUBIC));
     same_records();
-    ways[0].draw = write_all;
-    ways[1].draw = write_all_plainly;
-    row("writing a record", "record", NULL, ways, n, figures, WRITTEN);
-    ways[0].draw = read_all;
-    ways[1].draw = read_all_plainly;
-    row("reading a record", "record", NULL, ways, n, figures, WRITTEN);
+    ways[OURS].draw = write_all;
+    ways[IN_C].draw = write_all_plainly;
+    row("writing a record", "record", NULL, ways, figures, WRITTEN);
+    ways[OURS].draw = read_all;
+    ways[IN_C].draw = read_all_plainly;
+    row("reading a record", "record", NULL, ways, figures, WRITTEN);
 }
 
 int main(void) {
@@ -355,19 +354,22 @@ int main(void) {
     static const struct {
         uint32_t side, pitch;
     } sheets[] = {{64, 64}, {512, 512}, {4096, 4096}, {4096, 4160}};
-    struct way ways[WAYS] = {{.draw = pistonwool}, {.draw = walk}, {.draw = by_rows}};
-    size_t n = 3;
+    struct way ways[WAYS] = {[OURS].draw = pistonwool, [IN_C].draw = walk, [IN_C_BY_ROWS].draw = by_rows};
     printf("| figures | sheet | Pistonwool | C | C by rows");
 #ifdef OPENCV
-    ways[n++].draw = opencv;
+    ways[BY_OPENCV].draw = opencv;
     printf(" | OpenCV");
 #endif
 #ifdef LIBGD
-    ways[n++].draw = libgd;
+    ways[BY_LIBGD].draw = libgd;
     printf(" | libgd");
 #endif
-    printf(" | Pistonwool / C | / C by rows%s |\n|---|---", BESIDE > 2 ? " | / OpenCV" : "");
-    for (size_t i = 0; i < n + BESIDE; i++)
+    printf(" | Pistonwool / C | / C by rows");
+#ifdef OPENCV
+    printf(" | / OpenCV");
+#endif
+    printf(" |\n|---|---");
+    for (size_t i = 0; i < WAYS + BESIDE; i++)
         printf("|---");
     printf("|\n");
     for (size_t i = 0; i < sizeof sheets / sizeof *sheets; i++) {
@@ -382,7 +384,7 @@ int main(void) {
 #ifdef LIBGD
         libgd_begin(side);
 #endif
-        rows(&s, ways, n);
+        rows(&s, ways);
 #ifdef LIBGD
         libgd_end();
 #endif
@@ -392,8 +394,8 @@ int main(void) {
         free(s.work);
         free(s.fresh);
     }
-    record_rows(n);
-    rescue_row(n);
-    tally_rows(n); /* last, so that the random figures of all other rows stay what they were */
+    record_rows();
+    rescue_row();
+    tally_rows(); /* last, so that the random figures of all other rows stay what they were */
     return 0;
 }

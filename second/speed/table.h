@@ -4,7 +4,19 @@
 
 #include "speed.h"
 
-enum { WAYS = 5 };
+/* the columns of the ways, those of a library where it was there to compile with */
+enum {
+    OURS,
+    IN_C,
+    IN_C_BY_ROWS,
+#ifdef OPENCV
+    BY_OPENCV,
+#endif
+#ifdef LIBGD
+    BY_LIBGD,
+#endif
+    WAYS
+};
 
 /* a way to draw, how many figures it draws in a pass, and the nanoseconds of its best pass */
 struct way {
@@ -20,13 +32,12 @@ draw unable;
 void done(uint32_t reply);
 
 /* one row of the table: each way's nanoseconds by the unit, and ours as a part of the two in C and OpenCV's; s may be none */
-void row(const char *name, const char *unit, struct sheet *s, struct way *ways, size_t n, const struct figure *figures,
-         size_t units);
+void row(const char *name, const char *unit, struct sheet *s, struct way *ways, const struct figure *figures, size_t units);
 
-/* the row of a damaged file that is rescued, with so many ways in it */
-void rescue_row(size_t n);
+/* the row of a damaged file that is rescued */
+void rescue_row(void);
 
-/* the rows of sheets that are counted afresh, likewise */
-void tally_rows(size_t n);
+/* the rows of sheets that are counted afresh */
+void tally_rows(void);
 
 #endif

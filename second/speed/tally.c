@@ -28,8 +28,8 @@ static int afresh_plainly(struct sheet *s, const struct figure *f) {
 }
 
 /* stops where a way counts something else than was laid */
-static void same_tallies(struct sheet *s, const struct way *ways, size_t n, const uint32_t *laid) {
-    for (size_t w = 0; w < n; w++) {
+static void same_tallies(struct sheet *s, const struct way *ways, const uint32_t *laid) {
+    for (size_t w = 0; w < WAYS; w++) {
         memset(s->work, 255, s->side * sizeof *s->work);
         if (ways[w].draw(s, NULL) && memcmp(s->work, laid, s->side * sizeof *laid) != 0) {
             fprintf(stderr, "speed: way %zu counts something else than was laid\n", w);
@@ -51,28 +51,28 @@ static void lay_half(struct sheet *s, uint32_t *laid) {
 }
 
 /* a sheet that is counted so often that all its cells are as many as the largest has */
-static void tally_row(uint32_t side, struct way *ways, size_t n) {
+static void tally_row(uint32_t side, struct way *ways) {
     static uint8_t bytes[LARGEST * LARGEST];
     static uint32_t list[LARGEST], laid[LARGEST];
     static const struct figure none[MOST];
     struct sheet s = {.bytes = bytes, .side = side, .pitch = side, .work = list};
     lay_half(&s, laid);
-    same_tallies(&s, ways, n, laid);
-    for (size_t w = 0; w < n; w++)
+    same_tallies(&s, ways, laid);
+    for (size_t w = 0; w < WAYS; w++)
         ways[w].figures = COUNTED / ((size_t)side * side);
-    row("counting afresh", "cell", &s, ways, n, none, COUNTED);
+    row("counting afresh", "cell", &s, ways, none, COUNTED);
 }
 
-void tally_rows(size_t n) {
+void tally_rows(void) {
     struct way ways[WAYS];
-    for (size_t w = 0; w < n; w++)
+    for (size_t w = 0; w < WAYS; w++)
         ways[w] = (struct way){.draw = unable};
-    ways[0].draw = afresh;
-    ways[1].draw = afresh_plainly;
+    ways[OURS].draw = afresh;
+    ways[IN_C].draw = afresh_plainly;
 #ifdef OPENCV
-    ways[3].draw = opencv_tally;
+    ways[BY_OPENCV].draw = opencv_tally;
 #endif
-    tally_row(SMALLEST, ways, n);
-    tally_row(512, ways, n);
-    tally_row(LARGEST, ways, n);
+    tally_row(SMALLEST, ways);
+    tally_row(512, ways);
+    tally_row(LARGEST, ways);
 }
