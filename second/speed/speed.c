@@ -396,6 +396,8 @@ int main(void) {
     }
     record_rows();
     rescue_row();
-    tally_rows(); /* last, so that the random figures of all other rows stay what they were */
+    /* each after those that were there before it, so that their random figures stay what they were */
+    tally_rows();
+    picture_rows();
     return 0;
 }

@@ -26,8 +26,14 @@ struct sheet {
     int32_t *xs, *ys;
     size_t places;
     uint32_t *work;
-    uint8_t *fresh; /* what the sheet holds before a fill; a second sheet for rings that are to be the same */
+    /* what the sheet holds before a fill; a second sheet for rings that are to be the same; what is to be read of a picture */
+    uint8_t *fresh;
+    const uint8_t *picture; /* the PBM that a way wrote last, in room of its own, or is to read */
+    size_t pictured;
 };
+
+/* room for the largest sheet's picture and some bytes more */
+enum { PICTURE = 4096 * 4096 / 8 + 16 };
 
 /* a number from least to most */
 int32_t between(int32_t least, int32_t most);

@@ -40,4 +40,7 @@ void rescue_row(void);
 /* the rows of sheets that are counted afresh */
 void tally_rows(void);
 
+/* the rows of sheets that are written as pictures and read again */
+void picture_rows(void);
+
 #endif
