@@ -116,6 +116,17 @@ static void same_pictures(struct sheet *s, const struct way *ways, const uint8_t
             stop(w, "writes another picture than was laid");
 }
 
+/* what a way is to read of a cell: 1 for ink and else 0, or as OpenCV has them */
+static uint8_t due(const struct sheet *s, size_t way, size_t cell) {
+    uint8_t opposite = s->fresh[cell];
+#ifdef IMGCODECS
+    if (way == BY_OPENCV)
+        return opposite;
+#endif
+    (void)way;
+    return opposite == 0;
+}
+
 /* stops where a way does not read each cell as it was laid */
 static void same_cells(struct sheet *s, const struct way *ways) {
     for (size_t w = 0; w < WAYS; w++) {
@@ -123,13 +134,13 @@ static void same_cells(struct sheet *s, const struct way *ways) {
         if (!ways[w].draw(s, NULL))
             continue;
         for (size_t i = 0; i < length(s); i++)
-            if (s->bytes[i] != s->fresh[i])
+            if (s->bytes[i] != due(s, w, i))
                 stop(w, "reads other cells than were laid");
     }
 }
 
-/* sets half of the cells, at random, and their bits in the picture, of which it answers the bytes; fresh is then 1
- * where there is ink, and else 0 */
+/* sets half of the cells, at random, and their bits in the picture, of which it answers the bytes; fresh is then the sheet as
+ * OpenCV has it */
 static size_t lay_half(struct sheet *s, uint8_t *picture) {
     size_t bytes = (size_t)sprintf((char *)picture, "P4\n%u %u\n", s->side, s->side);
     for (uint32_t y = 0; y < s->side; y++)
@@ -137,7 +148,7 @@ static size_t lay_half(struct sheet *s, uint8_t *picture) {
             size_t cell = (size_t)y * s->pitch + x;
             int set = between(0, 1);
             s->bytes[cell] = set ? (uint8_t)between(1, 255) : 0;
-            s->fresh[cell] = (uint8_t)set;
+            s->fresh[cell] = set ? 0 : 255;
             if (x % 8 == 0)
                 picture[bytes++] = 0;
             picture[bytes - 1] |= (uint8_t)(set << (7 - x % 8));
@@ -169,6 +180,10 @@ void picture_rows(void) {
     reading[OURS].draw = read_picture;
     writing[IN_C].draw = write_plainly;
     reading[IN_C].draw = read_plainly;
+#ifdef IMGCODECS
+    writing[BY_OPENCV].draw = opencv_write;
+    reading[BY_OPENCV].draw = opencv_read;
+#endif
     both_rows(SMALLEST, writing, reading);
     both_rows(512, writing, reading);
     both_rows(LARGEST, writing, reading);

@@ -26,7 +26,8 @@ struct sheet {
     int32_t *xs, *ys;
     size_t places;
     uint32_t *work;
-    /* what the sheet holds before a fill; a second sheet for rings that are to be the same; what is to be read of a picture */
+    /* what the sheet holds before a fill; a second sheet for rings that are to be the same; the sheet as OpenCV has pictures, 0
+     * for ink and else 255 */
     uint8_t *fresh;
     const uint8_t *picture; /* the PBM that a way wrote last, in room of its own, or is to read */
     size_t pictured;
@@ -63,6 +64,8 @@ draw by_rows;
 draw opencv, libgd;
 /* counts the nonzero cells of each row into the work slice, by OpenCV; the figure is none */
 draw opencv_tally;
+/* writes the sheet as raw PBM, or reads one onto it, by OpenCV; the figure is none */
+draw opencv_write, opencv_read;
 /* libgd draws on an image of its own */
 void libgd_begin(uint32_t side);
 void libgd_end(void);
