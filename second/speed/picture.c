@@ -140,14 +140,14 @@ static void same_cells(struct sheet *s, const struct way *ways) {
 }
 
 /* sets half of the cells, at random, and their bits in the picture, of which it answers the bytes; fresh is then the sheet as
- * OpenCV has it */
+ * OpenCV has it. No ink is above 127, since libnetpbm takes that for none. */
 static size_t lay_half(struct sheet *s, uint8_t *picture) {
     size_t bytes = (size_t)sprintf((char *)picture, "P4\n%u %u\n", s->side, s->side);
     for (uint32_t y = 0; y < s->side; y++)
         for (uint32_t x = 0; x < s->side; x++) {
             size_t cell = (size_t)y * s->pitch + x;
             int set = between(0, 1);
-            s->bytes[cell] = set ? (uint8_t)between(1, 255) : 0;
+            s->bytes[cell] = set ? (uint8_t)between(1, 127) : 0;
             s->fresh[cell] = set ? 0 : 255;
             if (x % 8 == 0)
                 picture[bytes++] = 0;
@@ -183,6 +183,11 @@ void picture_rows(void) {
 #ifdef IMGCODECS
     writing[BY_OPENCV].draw = opencv_write;
     reading[BY_OPENCV].draw = opencv_read;
+#endif
+#ifdef NETPBM
+    netpbm_begin();
+    writing[BY_NETPBM].draw = netpbm_write;
+    reading[BY_NETPBM].draw = netpbm_read;
 #endif
     both_rows(SMALLEST, writing, reading);
     both_rows(512, writing, reading);

@@ -364,6 +364,10 @@ int main(void) {
     ways[BY_LIBGD].draw = libgd;
     printf(" | libgd");
 #endif
+#ifdef NETPBM
+    ways[BY_NETPBM].draw = unable;
+    printf(" | Netpbm");
+#endif
     printf(" | Pistonwool / C | / C by rows");
 #ifdef OPENCV
     printf(" | / OpenCV");

@@ -66,6 +66,9 @@ draw opencv, libgd;
 draw opencv_tally;
 /* writes the sheet as raw PBM, or reads one onto it, by OpenCV; the figure is none */
 draw opencv_write, opencv_read;
+/* the same by libnetpbm, once it was begun */
+draw netpbm_write, netpbm_read;
+void netpbm_begin(void);
 /* libgd draws on an image of its own */
 void libgd_begin(uint32_t side);
 void libgd_end(void);

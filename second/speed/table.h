@@ -15,6 +15,9 @@ enum {
 #ifdef LIBGD
     BY_LIBGD,
 #endif
+#ifdef NETPBM
+    BY_NETPBM,
+#endif
     WAYS
 };
 
