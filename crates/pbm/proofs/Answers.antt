@@ -103,7 +103,7 @@ module _ (k : Shape) (p s : List ℕ) (sheet : fits k (length s) ≡ true) where
     reads-done t l e = paints (readDrawing k p) s (done []) t refl (if-sheet k (length s) sheet _ ∙ simp (named, le-leb (rasterBytes k) (length (rowsOf p)) l)) e
 
 -- a bit is 0 or 1, so that 1 over 0 where it is 1 is the bit
-bit-ink : (b : ℕ) → b < 2 → cond (eqb b 1) 1 0 ≡ b
+pub bit-ink : (b : ℕ) → b < 2 → cond (eqb b 1) 1 0 ≡ b
 bit-ink zero l = refl
 bit-ink (suc zero) l = refl
 bit-ink (suc (suc b)) l = absurd (omega arith)

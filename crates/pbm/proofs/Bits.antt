@@ -17,7 +17,7 @@ use Rattle.pbm.specs.Reading.{bitAt}
 use Rattle.pbm.specs.Inner.{Flags, fourOf, packedAt, spread, byteOf}
 
 -- what a test shows of all numbers below n that it is computed at
-holds-below : (n : ℕ) (test : ℕ → Bool) → any n (λ (i : ℕ). not (test i)) ≡ false → (i : ℕ) → i < n → test i ≡ true
+pub holds-below : (n : ℕ) (test : ℕ → Bool) → any n (λ (i : ℕ). not (test i)) ≡ false → (i : ℕ) → i < n → test i ≡ true
 holds-below n test e i l = by (test i) refl
   where
     by : (t : Bool) → test i ≡ t → t ≡ true

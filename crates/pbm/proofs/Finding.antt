@@ -17,7 +17,7 @@ use Rattle.pbm.specs.Inner.{lettersAt, Stands, capped, Finds}
 use Rattle.pbm.proofs.Standing.{stands-first, stands-next, stands-after, run-ends, capped-low, capped-high, inside}
 
 -- the parts' tests, in the order in which the code puts them together
-shuffle : (p q b d c e f x y : Bool) → ((p && q && b && d && c && e && f) && x && y) ≡ (((p && q) && ((b && c) && f)) && ((d && x) && (e && y)))
+pub shuffle : (p q b d c e f x y : Bool) → ((p && q && b && d && c && e && f) && x && y) ≡ (((p && q) && ((b && c) && f)) && ((d && x) && (e && y)))
 shuffle false q b d c e f x y = refl
 shuffle true false b d c e f x y = refl
 shuffle true true false d c e f x y = refl

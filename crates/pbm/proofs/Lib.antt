@@ -1,6 +1,10 @@
-pub mod Answers
-pub mod Bits
-pub mod Decimals
-pub mod Finding
-pub mod Raster
-pub mod Standing
+mod Again
+mod Answers
+mod Bits
+mod Decimals
+pub mod Empty
+mod Finding
+mod Grammar
+mod Raster
+pub mod Shown
+mod Standing

@@ -118,7 +118,7 @@ module _ (width : ℕ) (f : ℕ → ℕ) (before flags : List ℕ) (wide : width
       by (no l) = flags-out x (omega arith) ∙ sym (ap (λ (t : Bool). cond t (f x) 0) (le-ltb x width (omega arith)))
 
 -- bits that are equal make equal numbers
-packed-as : (n : ℕ) (f g : ℕ → ℕ) → ((i : ℕ) → i < n → f i ≡ g i) → packed n f ≡ packed n g
+pub packed-as : (n : ℕ) (f g : ℕ → ℕ) → ((i : ℕ) → i < n → f i ≡ g i) → packed n f ≡ packed n g
 unfolding packed
 packed-as zero f g h = refl
 packed-as (suc n) f g h = ap₂ (λ (a b : ℕ). 2 * a + b) (packed-as n f g (λ i l. h i (omega arith))) (h n (omega arith))

@@ -57,4 +57,7 @@ rowBit p from x = bitAt (getD p (from + x / 8) 0) (x % 8)
 -- the bytes with the rows before y of a picture laid over their cells
 unfoldable pub laid : Shape → List ℕ → ℕ → ℕ → List ℕ → List ℕ
 laid k p from y s =
-    byPlace (λ (n v : ℕ). cond (ltb (n % k .pitch) (k .width) && ltb (n / k .pitch) y) (rowBit p (from + n / k .pitch * rowBytes (k .width)) (n % k .pitch)) v) s
+    byPlace
+    (λ (n v : ℕ).
+    cond (ltb (n % k .pitch) (k .width) && ltb (n / k .pitch) y) (rowBit p (from + n / k .pitch * rowBytes (k .width)) (n % k .pitch)) v)
+    s

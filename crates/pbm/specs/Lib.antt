@@ -3,3 +3,4 @@ pub mod Inner
 pub mod Page
 pub mod Picture
 pub mod Reading
+pub mod Shown

@@ -51,4 +51,4 @@ pub record Headed (file : List ℕ) (width height : ℕ) (rows : List ℕ) : Typ
   pub lasts : blank last ≡ true
   pub wide : valueAfter 0 across ≡ width
   pub high : valueAfter 0 down ≡ height
-  pub begins : Begins (80 ∷ 52 ∷ gap ++ across ++ space ++ down ++ (last ∷ [])) file rows
+  pub begins : Begins (80 ∷ 52 ∷ (gap ++ (across ++ (space ++ (down ++ (last ∷ [])))))) file rows
