@@ -14,7 +14,7 @@ use Rattle.laws.proofs.Tests.{is-true, from-true, halves}
 use Rattle.laws.proofs.Each.{each-as, put-plus}
 use Rattle.pbm.specs.Picture.{packed}
 use Rattle.pbm.specs.Reading.{bitAt}
-use Rattle.pbm.specs.Inner.{Flags, fourOf, packedAt, spread, byteOf}
+use Rattle.pbm.specs.Inner.{Flags, fourOf, packedAt, spread, Table, byteOf}
 
 -- what a test shows of all numbers below n that it is computed at
 pub holds-below : (n : ℕ) (test : ℕ → Bool) → any n (λ (i : ℕ). not (test i)) ≡ false → (i : ℕ) → i < n → test i ≡ true
@@ -72,9 +72,12 @@ abbrev pub table : List ℕ
 table =
     0 ∷ 16777216 ∷ 65536 ∷ 16842752 ∷ 256 ∷ 16777472 ∷ 65792 ∷ 16843008 ∷ 1 ∷ 16777217 ∷ 65537 ∷ 16842753 ∷ 257 ∷ 16777473 ∷ 65793 ∷ 16843009 ∷ []
 
-pub table-is : (n : ℕ) → n < 16 → getD table n 0 ≡ spread n
+table-at : (n : ℕ) → n < 16 → getD table n 0 ≡ spread n
 unfolding spread any
-table-is n l = eqb-true (getD table n 0) (spread n) (holds-below 16 (λ (n : ℕ). eqb (getD table n 0) (spread n)) refl n l)
+table-at n l = eqb-true (getD table n 0) (spread n) (holds-below 16 (λ (n : ℕ). eqb (getD table n 0) (spread n)) refl n l)
+
+pub table-is : Table table
+table-is = record { long = refl; is = table-at }
 
 -- the cells of a byte's halves are its bits, tested for every byte
 halved : ℕ → ℕ → Bool

@@ -43,9 +43,13 @@ fourOf f at = getD f at 0 + getD f (at + 1) 0 * 256 + (getD f (at + 2) 0 + getD 
 unfoldable pub packedAt : List ℕ → ℕ → ℕ
 packedAt f at = packed 8 (λ (i : ℕ). getD f (at + i) 0)
 
--- four bits in the bytes of a number, the highest in the lowest; and byte i of a number
+-- four bits in the bytes of a number, the highest in the lowest; a table of these; and byte i of a number
 unfoldable pub spread : ℕ → ℕ
 spread n = n / 8 + n / 4 % 2 * 256 + n / 2 % 2 * 65536 + n % 2 * 16777216
+
+pub record Table (t : List ℕ) : Type 0 where
+  pub long : length t ≡ 16
+  pub is : (n : ℕ) → n < 16 → getD t n 0 ≡ spread n
 
 unfoldable pub byteOf : ℕ → ℕ → ℕ
 byteOf n i = n / 256 ^ i % 256

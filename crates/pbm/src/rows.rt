@@ -7,7 +7,7 @@ ghost use Rattle.laws.specs.Below.{each};
 ghost use Rattle.sheet.specs.Inner.{Sheet};
 ghost use Rattle.pbm.specs.Picture.{rowBytes, rasterBytes, bitOf, rasterByte};
 ghost use Rattle.pbm.specs.Reading.{bitAt};
-ghost use Rattle.pbm.specs.Inner.{spread, byteOf, flagAt, fourOf, Flags, packedAt, rowBit, laid};
+ghost use Rattle.pbm.specs.Inner.{spread, Table, byteOf, flagAt, fourOf, Flags, packedAt, rowBit, laid};
 use crate::put;
 use sheet::Shape;
 
@@ -108,11 +108,11 @@ pub(crate) fn put_rows(sheet: &[u8], shape: Shape, out: &mut [u8], at: usize)
 }
 
 // Four cells of ink 1 and 0, by four bits.
-fn cells_of(bits: u8) -> u32
-    requires { ⌜ bits < 16 ⌝ }
+fn cells_of(table: &[u32], bits: u8) -> u32
+    requires { ⌜ Table (now table) × (bits < 16) ⌝ }
     ensures { λ r. ⌜ r ≡ spread bits ⌝ }
 {
-    SPREAD[bits as usize]
+    table[bits as usize]
 }
 
 // Lays four cells, the bytes of a number.
@@ -127,43 +127,43 @@ fn lay_four(sheet: &mut [u8], at: usize, cells: u32)
 }
 
 // Lays the eight cells of a byte.
-fn lay(sheet: &mut [u8], at: usize, byte: u8)
-    requires { ⌜ at + 8 ≤ length (now sheet) ⌝ }
+fn lay(sheet: &mut [u8], at: usize, byte: u8, table: &[u32])
+    requires { ⌜ (at + 8 ≤ length (now sheet)) × Table (now table) ⌝ }
     ensures { λ _. ⌜ now (sheet .exit) ≡ sets (now (sheet .entry)) at (each 8 (bitAt byte)) ⌝ }
 {
-    lay_four(sheet, at, cells_of(byte / 16));
-    lay_four(sheet, at + 4, cells_of(byte % 16));
+    lay_four(sheet, at, cells_of(table, byte / 16));
+    lay_four(sheet, at + 4, cells_of(table, byte % 16));
 }
 
 // Lays the first few cells of a byte.
-fn lay_few(sheet: &mut [u8], at: usize, cells: usize, byte: u8)
-    requires { ⌜ (at + cells ≤ length (now sheet)) × (cells ≤ 8) ⌝ }
+fn lay_few(sheet: &mut [u8], at: usize, cells: usize, byte: u8, table: &[u32])
+    requires { ⌜ (at + cells ≤ length (now sheet)) × (cells ≤ 8) × Table (now table) ⌝ }
     ensures { λ _. ⌜ now (sheet .exit) ≡ sets (now (sheet .entry)) at (each cells (bitAt byte)) ⌝ }
 {
     let mut eight = [0u8; 8];
-    lay(&mut eight, 0, byte);
+    lay(&mut eight, 0, byte, table);
     put(sheet, at, &eight[..cells]);
 }
 
 // Lays a row of a picture.
-fn lay_row(sheet: &mut [u8], at: usize, width: usize, picture: &[u8], from: usize)
-    requires { ⌜ (at + width ≤ length (now sheet)) × (width ≤ 4096) × (from + rowBytes width ≤ length (now picture)) ⌝ }
+fn lay_row(sheet: &mut [u8], at: usize, width: usize, picture: &[u8], from: usize, table: &[u32])
+    requires { ⌜ (at + width ≤ length (now sheet)) × (width ≤ 4096) × (from + rowBytes width ≤ length (now picture)) × Table (now table) ⌝ }
     ensures { λ _. ⌜ now (sheet .exit) ≡ sets (now (sheet .entry)) at (each width (rowBit (now (picture .entry)) from)) ⌝ }
 {
     let whole = width / 8;
     let mut j = 0;
     while j < whole {
-        lay(sheet, at + j * 8, picture[from + j]);
+        lay(sheet, at + j * 8, picture[from + j], table);
         j += 1;
     }
     let left = width - whole * 8;
     if left == 0 {
         return;
     }
-    lay_few(sheet, at + whole * 8, left, picture[from + whole]);
+    lay_few(sheet, at + whole * 8, left, picture[from + whole], table);
 }
 
-// Lays the rows of a picture.
+// Lays the rows of a picture. The table is copied once, since a constant is copied wherever it is read.
 pub(crate) fn lay_rows(sheet: &mut [u8], shape: Shape, picture: &[u8], from: usize)
     requires { ⌜ Sheet shape (now sheet) × (from + rasterBytes shape ≤ length (now picture)) ⌝ }
     ensures { λ _. ⌜ now (sheet .exit) ≡ laid shape (now (picture .entry)) from (shape .height) (now (sheet .entry)) ⌝ }
@@ -172,9 +172,10 @@ pub(crate) fn lay_rows(sheet: &mut [u8], shape: Shape, picture: &[u8], from: usi
     let height = shape.height as usize;
     let pitch = shape.pitch as usize;
     let count = row_bytes(width);
+    let table = SPREAD;
     let mut y = 0;
     while y < height {
-        lay_row(sheet, y * pitch, width, picture, from + y * count);
+        lay_row(sheet, y * pitch, width, picture, from + y * count, &table);
         y += 1;
     }
 }

@@ -28,7 +28,7 @@ returns : tie.Need-returns
 returns c =
     let second = c .before .before in
     let first = second .before .before .before .before .before in
-    let s = first .before .before .before .before in
+    let s = first .before .before .before .before .before in
     lay-is (now (s .args .sheet)) _ _ (s .args .at) (s .args .byte) _ _ (omega (arith, s .fits .byte)) (first .before .cells-of .ensures) (second .before .cells-of2 .ensures)
     (first .lay-four .ensures)
     (second .lay-four2 .ensures)

@@ -5,17 +5,17 @@ use native.Mathlib.Omega.{arith}
 use borrow.Author.Needs.{needs}
 use denote.Ref.{now}
 use lib.ListN.{length, getD}
-use Rattle.pbm.specs.Reading.{bitAt}
 use Rattle.pbm.specs.Inner.{rowBit}
+use Rattle.pbm.specs.Reading.{bitAt}
 use Rattle.pbm.proofs.Raster.{Puts, puts-end, puts-more, puts-none, row-bits}
 use Rattle.pbm.proofs.rows.lay_row.Statement.{statement}
 use Rattle.pbm.proofs.rows.lay_row.Tie as tie
 
 abbrev Inv-loop : tie.InvT-loop
-Inv-loop sheet₀ at width picture from whole j₀ sheet j = Puts sheet₀ at (rowBit picture from) sheet (j * 8) × (j ≤ whole)
+Inv-loop sheet₀ at width picture from table whole j₀ sheet j = Puts sheet₀ at (rowBit picture from) sheet (j * 8) × (j ≤ whole)
 
 abbrev μ-loop : tie.MeasureT-loop
-μ-loop sheet₀ at width picture from whole j₀ sheet j = whole - j
+μ-loop sheet₀ at width picture from table whole j₀ sheet j = whole - j
 
 loop-holds : tie.Need-loop-holds Inv-loop μ-loop
 loop-holds c = (puts-none _ _ _, omega arith)
@@ -31,13 +31,13 @@ add-lay-2 c = search needs
 
 shared-slice-read-lay : tie.Need-shared-slice-read-lay Inv-loop μ-loop
 shared-slice-read-lay c =
-    let s = c .before .before .before .before .before .before in
+    let s = c .before .before .before .before .before .before .before in
     omega (arith, c .before .before .loop-test .taken, s .pre .2)
 
 lay-requires : tie.Need-lay-requires Inv-loop μ-loop
 lay-requires c κs =
-    let s = c .before .before .before .before .before .before in
-    omega (arith, c .before .before .before .loop .inv .0 .size, c .before .before .loop-test .taken, s .pre .0)
+    let s = c .before .before .before .before .before .before .before in
+    (omega (arith, c .before .before .before .loop .inv .0 .size, c .before .before .loop-test .taken, s .pre .0), s .pre .3)
 
 add-j : tie.Need-add-j Inv-loop μ-loop
 add-j c = search needs
@@ -48,7 +48,7 @@ loop-less c = search needs
 loop-again : tie.Need-loop-again Inv-loop μ-loop
 loop-again c =
     let l = c .before .before .before .before .before .before .loop in
-    let a = c .before .before .before .before .before .before .before .before .before .args in (
+    let a = c .before .before .before .before .before .before .before .before .before .before .args in (
       puts-more 8 ((l .j + 1) * 8) (bitAt (getD (now (a .picture)) (a .from + l .j) 0)) (l .inv .0) (omega arith) (λ i m. row-bits (now (a .picture)) (a .from) (l .j) i m) (c .before .before .lay .ensures),
       omega (arith, c .before .before .before .before .before .loop-test .taken),
     )
@@ -78,26 +78,27 @@ add-lay-few-2 c = search needs
 
 shared-slice-read-lay-few : tie.Need-shared-slice-read-lay-few Inv-loop μ-loop
 shared-slice-read-lay-few c =
-    let s = c .before .before .before .before .before .before .before in
+    let s = c .before .before .before .before .before .before .before .before in
     omega (arith, c .before .before .if1 .left, s .pre .2)
 
 lay-few-requires : tie.Need-lay-few-requires Inv-loop μ-loop
 lay-few-requires c κs =
-    let s = c .before .before .before .before .before .before .before in
+    let s = c .before .before .before .before .before .before .before .before in
     let l = c .before .before .before .before .loop in
     let w = s .args .width in
     let room : s .args .at + w / 8 * 8 + (w - w / 8 * 8) ≤ length (l .sheet) = omega (arith, l .inv .0 .size, s .pre .0) in
-    (room, omega arith)
+    (room, omega arith, s .pre .3)
 
-laid-whole : (c : tie.After-lay-few Inv-loop μ-loop) → let a = c .before .before .before .before .before .before .before .before .args in
+laid-whole : (c : tie.After-lay-few Inv-loop μ-loop) → let a = c .before .before .before .before .before .before .before .before .before .args in
     Puts (now (a .sheet)) (a .at) (rowBit (now (a .picture)) (a .from)) (c .lay-few .last .0) (a .width)
 laid-whole c =
     let l = c .before .before .before .before .before .loop in
-    let a = c .before .before .before .before .before .before .before .before .args in
+    let a = c .before .before .before .before .before .before .before .before .before .args in
     let w = a .width in
     let all : l .j ≡ w / 8 = omega (arith, l .inv .1, c .before .before .before .before .loop-test .left) in
-    let at-whole : Puts (now (a .sheet)) (a .at) (rowBit (now (a .picture)) (a .from)) (l .sheet) (w / 8 * 8) = subst (λ (n : ℕ). Puts (now (a .sheet)) (a .at) (rowBit (now (a .picture)) (a .from)) (l .sheet) (n * 8)) all (l .inv .0) in
-    puts-more (w - w / 8 * 8) w (bitAt (getD (now (a .picture)) (a .from + w / 8) 0)) at-whole (omega arith) (λ i m. row-bits (now (a .picture)) (a .from) (w / 8) i (omega arith)) (c .lay-few .ensures)
+    let begun : ℕ → Type 0 = λ n. Puts (now (a .sheet)) (a .at) (rowBit (now (a .picture)) (a .from)) (l .sheet) (n * 8) in
+    puts-more (w - w / 8 * 8) w (bitAt (getD (now (a .picture)) (a .from + w / 8) 0)) (subst begun all (l .inv .0)) (omega arith)
+    (λ i m. row-bits (now (a .picture)) (a .from) (w / 8) i (omega arith)) (c .lay-few .ensures)
 
 same-length-2 : tie.Need-same-length-2 Inv-loop μ-loop
 same-length-2 c = laid-whole (c .before .before) .size

@@ -6,17 +6,18 @@ use borrow.Author.Needs.{needs}
 use denote.Ref.{now}
 use lib.ListN.{length}
 use Rattle.sheet.proofs.Limits.{row-ends, row-small}
-use Rattle.pbm.specs.Picture.{rowBytes}
+use Rattle.pbm.specs.Picture.{rasterBytes}
 use Rattle.pbm.specs.Inner.{laid}
+use Rattle.pbm.proofs.Bits.{table-is}
 use Rattle.pbm.proofs.Raster.{Lays, lays-none, lays-one, raster-ends, raster-small}
 use Rattle.pbm.proofs.rows.lay_rows.Statement.{statement}
 use Rattle.pbm.proofs.rows.lay_rows.Tie as tie
 
 abbrev Inv-loop : tie.InvT-loop
-Inv-loop sheet₀ picture from width height pitch count y₀ sheet y = Lays picture sheet₀ from width pitch sheet y × (y ≤ height)
+Inv-loop sheet₀ picture from width height pitch count table y₀ sheet y = Lays picture sheet₀ from width pitch sheet y × (y ≤ height)
 
 abbrev μ-loop : tie.MeasureT-loop
-μ-loop sheet₀ picture from width height pitch count y₀ sheet y = height - y
+μ-loop sheet₀ picture from width height pitch count table y₀ sheet y = height - y
 
 cast-width : tie.Need-cast-width Inv-loop μ-loop
 cast-width c = search needs
@@ -44,25 +45,29 @@ mul-lay-row-2 c =
     let s = r .before .before .before .before .before .before in
     omega (arith, raster-small (c .before .before .loop .y) (r .row-bytes .result) (omega (arith, c .before .loop-test .taken, s .pre .0 .high)) (r .row-bytes .ensures .1))
 
-add-lay-row : tie.Need-add-lay-row Inv-loop μ-loop
-add-lay-row c =
-    let r = c .before .before .before in
+rows-end : (c : tie.In-loop Inv-loop μ-loop) → let r = c .before .before in let a = r .before .before .before .before .before .before .args in
+    a .from + (c .before .loop .y * r .row-bytes .result + r .row-bytes .result) ≤ length (now (a .picture))
+rows-end c =
+    let r = c .before .before in
     let s = r .before .before .before .before .before .before in
-    let count = r .row-bytes .result in
-    let same : s .args .shape .height * count ≡ s .args .shape .height * rowBytes (s .args .shape .width) = ap (λ (n : ℕ). s .args .shape .height * n) (r .row-bytes .ensures .0) in
-    omega (arith, raster-ends (s .args .shape .height) (c .before .before .loop .y) count (c .before .loop-test .taken), same, s .pre .1)
+    let k = s .args .shape in
+    let same : k .height * r .row-bytes .result ≡ rasterBytes k = ap (λ (n : ℕ). k .height * n) (r .row-bytes .ensures .0) in
+    omega (arith, raster-ends (k .height) (c .before .loop .y) (r .row-bytes .result) (c .loop-test .taken), same, s .pre .1)
+
+add-lay-row : tie.Need-add-lay-row Inv-loop μ-loop
+add-lay-row c = omega (arith, rows-end (c .before))
+
+slice-aggregate-lay-row : tie.Need-slice-aggregate-lay-row Inv-loop μ-loop
+slice-aggregate-lay-row c = refl
 
 lay-row-requires : tie.Need-lay-row-requires Inv-loop μ-loop
 lay-row-requires c κs =
-    let r = c .before .before .before in
-    let s = r .before .before .before .before .before .before in
-    let l = c .before .before .loop in
-    let k = s .args .shape in
-    let z = s .pre .0 in
-    let count = r .row-bytes .result in
-    let same : k .height * count ≡ k .height * rowBytes (k .width) = ap (λ (n : ℕ). k .height * n) (r .row-bytes .ensures .0) in
-    let room : l .y * k .pitch + k .width ≤ length (l .sheet) = omega (arith, l .inv .0 .size, row-ends z (l .y) (c .before .loop-test .taken), z .disjoint) in
-    (room, z .wide, omega (arith, raster-ends (k .height) (l .y) count (c .before .loop-test .taken), same, s .pre .1, r .row-bytes .ensures .0))
+    let r = c .before .before .before .before in
+    let z = r .before .before .before .before .before .before .pre .0 in
+    let l = c .before .before .before .loop in
+    let k = r .before .before .before .before .before .before .args .shape in
+    let room : l .y * k .pitch + k .width ≤ length (l .sheet) = omega (arith, l .inv .0 .size, row-ends z (l .y) (c .before .before .loop-test .taken), z .disjoint) in
+    (room, z .wide, omega (arith, rows-end (c .before .before), r .row-bytes .ensures .0), table-is)
 
 add-y : tie.Need-add-y Inv-loop μ-loop
 add-y c = search needs
@@ -72,10 +77,10 @@ loop-less c = search needs
 
 loop-again : tie.Need-loop-again Inv-loop μ-loop
 loop-again c =
-    let l = c .before .before .before .before .before .loop in
-    let r = c .before .before .before .before .before .before in
+    let l = c .before .before .before .before .before .before .loop in
+    let r = c .before .before .before .before .before .before .before in
     let z = r .before .before .before .before .before .before .pre .0 in
-    (lays-one _ (r .row-bytes .result) (z .disjoint) (z .broad) (l .inv .0) (r .row-bytes .ensures .0) (c .before .before .lay-row .ensures), omega (arith, c .before .before .before .before .loop-test .taken))
+    (lays-one _ (r .row-bytes .result) (z .disjoint) (z .broad) (l .inv .0) (r .row-bytes .ensures .0) (c .before .before .lay-row .ensures), omega (arith, c .before .before .before .before .before .loop-test .taken))
 
 same-length : tie.Need-same-length Inv-loop μ-loop
 same-length c = c .before .loop .inv .0 .size
@@ -101,6 +106,7 @@ lay-rows-spec =
     mul-lay-row
     mul-lay-row-2
     add-lay-row
+    slice-aggregate-lay-row
     lay-row-requires
     add-y
     loop-less
