@@ -33,7 +33,7 @@ use Rattle.pbm.specs.Header.{names, rowsOf}
 use Rattle.pbm.specs.Reading.{bitAt, pixel, readAnswer, everywhere, black, readDrawing}
 use Rattle.pbm.specs.Shown.{SameSize, cleared}
 use Rattle.pbm.proofs.Answers.{bit-ink}
-use Rattle.pbm.proofs.Bits.{holds-below}
+use Rattle.pbm.proofs.Bits.{holds-below, not-not}
 use Rattle.pbm.proofs.Grammar.{page-names, names-page}
 use Rattle.pbm.proofs.Raster.{packed-as, raster-ends}
 use Rattle.pbm.proofs.Standing.{digit-value}
@@ -243,10 +243,6 @@ kept m b = eqb (packed 8 (λ (i : ℕ). cond (ltb i m) (bitAt b i) 0)) (b - b % 
 kept-all : any 9 (λ (m : ℕ). not (not (any 256 (λ (b : ℕ). not (kept m b))))) ≡ false
 unfolding kept packed any
 kept-all = refl
-
-not-not : (t : Bool) → not t ≡ true → t ≡ false
-not-not true e = absurd (true≢false (sym e))
-not-not false e = refl
 
 kept-is : (m b : ℕ) → m < 9 → b < 256 → packed 8 (λ (i : ℕ). cond (ltb i m) (bitAt b i) 0) ≡ b - b % 2 ^ (8 - m)
 unfolding kept

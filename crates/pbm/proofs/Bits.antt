@@ -1,17 +1,17 @@
 -- Eight flags as a byte, and a byte as eight cells.
-use Prim.Native.Nat.{ℕ, zero, suc, _+_, _*_, _/_, _%_, _≤_, _<_}
-use mathlib.Core.Path.{_≡_, refl, sym, ap, ap₂, _∙_}
-use mathlib.Core.List.{List, [], _∷_}
-use mathlib.Core.Bool.{Bool, true, false, not, _&&_, true≢false}
+use Prim.Native.Nat.{ℕ, suc, _+_, _*_, _/_, _%_, _≤_, _<_}
+use mathlib.Core.Path.{_≡_, refl, sym, ap, _∙_}
+use mathlib.Core.List.{List}
+use mathlib.Core.Bool.{Bool, true, false, not, true≢false}
 use native.Mathlib.Omega.{arith}
-use borrow.Author.Tests.{eqb-true}
-use lib.Dec.{T, eqb}
-use lib.ListN.{getD, set}
-use lib.Seq.{sets}
+use native.Mathlib.Decide.{ℕ-discrete}
+use borrow.Author.Tests.{eqb-true, leb-true}
+use lib.Dec.{T, eqb, leb}
+use lib.ListN.{length, getD, set, length-set}
+use lib.Seq.{sets, getD-set-same, getD-set-other}
 use Rattle.laws.specs.Below.{any, each}
 use Rattle.laws.proofs.Below.{any-at}
-use Rattle.laws.proofs.Tests.{is-true, from-true, halves}
-use Rattle.laws.proofs.Each.{each-as, put-plus}
+use Rattle.laws.proofs.Tests.{is-true, from-true}
 use Rattle.pbm.specs.Picture.{packed}
 use Rattle.pbm.specs.Reading.{bitAt}
 use Rattle.pbm.specs.Inner.{Flags, fourOf, packedAt, spread, Table, byteOf}
@@ -67,53 +67,80 @@ pub four-small : (f : List ℕ) (at : ℕ) → Flags f → fourOf f at ≤ 16843
 unfolding fourOf
 four-small f at l = omega (arith, l at, l (at + 1), l (at + 2), l (at + 3))
 
--- the table of four cells, tested whole
-abbrev pub table : List ℕ
-table =
-    0 ∷ 16777216 ∷ 65536 ∷ 16842752 ∷ 256 ∷ 16777472 ∷ 65792 ∷ 16843008 ∷ 1 ∷ 16777217 ∷ 65537 ∷ 16842753 ∷ 257 ∷ 16777473 ∷ 65793 ∷ 16843009 ∷ []
+-- the cells of a byte are those of its half, one further, and its last bit: tested for every byte, and so that their bytes are its bits
+halved : ℕ → Bool
+halved b = eqb (spread 8 (b / 2) / 256 + b % 2 * 72057594037927936) (spread 8 b)
 
-table-at : (n : ℕ) → n < 16 → getD table n 0 ≡ spread n
-unfolding spread any
-table-at n l = eqb-true (getD table n 0) (spread n) (holds-below 16 (λ (n : ℕ). eqb (getD table n 0) (spread n)) refl n l)
+halved-all : any 256 (λ (b : ℕ). not (halved b)) ≡ false
+unfolding halved spread any
+halved-all = refl
 
-pub table-is : Table table
-table-is = record { long = refl; is = table-at }
-
--- the cells of a byte's halves are its bits, tested for every byte
-halved : ℕ → ℕ → Bool
-halved i b = eqb (byteOf (spread (b / 16)) i) (bitAt b i) && eqb (byteOf (spread (b % 16)) i) (bitAt b (4 + i))
-
-halved-all : (i : ℕ) → i < 4 → any 256 (λ (b : ℕ). not (halved i b)) ≡ false
-unfolding halved spread byteOf any
-halved-all zero l = refl
-halved-all (suc zero) l = refl
-halved-all (suc (suc zero)) l = refl
-halved-all (suc (suc (suc zero))) l = refl
-halved-all (suc (suc (suc (suc i)))) l = absurd (omega arith)
-
-halves-are : (b i : ℕ) → b < 256 → i < 4 → (byteOf (spread (b / 16)) i ≡ bitAt b i) × (byteOf (spread (b % 16)) i ≡ bitAt b (4 + i))
+pub halved-is : (b : ℕ) → b < 256 → spread 8 (b / 2) / 256 + b % 2 * 72057594037927936 ≡ spread 8 b
 unfolding halved
-halves-are b i l m =
-    let p = halves (eqb (byteOf (spread (b / 16)) i) (bitAt b i)) (eqb (byteOf (spread (b % 16)) i) (bitAt b (4 + i))) (holds-below 256 (halved i) (halved-all i m) b l) in
-    (eqb-true _ _ (p .0), eqb-true _ _ (p .1))
+halved-is b l = eqb-true _ _ (holds-below 256 halved halved-all b l)
 
--- eight cells, laid as four and four
-pub lay-is : (s t u : List ℕ) (at b c d : ℕ) → b < 256 → c ≡ spread (b / 16) → d ≡ spread (b % 16)
-    → t ≡ sets s at (each 4 (byteOf c)) → u ≡ sets t (at + 4) (each 4 (byteOf d)) → u ≡ sets s at (each 8 (bitAt b))
-lay-is s t u at b c d l p q e f =
-    let high : each 4 (byteOf c) ≡ each 4 (bitAt b) = each-as 4 (byteOf c) (bitAt b) (λ i m. ap (λ (n : ℕ). byteOf n i) p ∙ halves-are b i l m .0) in
-    let low : each 4 (byteOf d) ≡ each 4 (λ (i : ℕ). bitAt b (4 + i)) =
-    each-as 4 (byteOf d) (λ (i : ℕ). bitAt b (4 + i)) (λ i m. ap (λ (n : ℕ). byteOf n i) q ∙ halves-are b i l m .1) in
-    f ∙ ap₂ (λ (x y : List ℕ). sets x (at + 4) y) (e ∙ ap (sets s at) high) low ∙ sym (put-plus s at 4 4 (bitAt b))
+small-all : any 256 (λ (b : ℕ). not (leb (spread 8 b) 72340172838076673)) ≡ false
+unfolding spread any
+small-all = refl
 
--- four cells by four stores
-pub four-put : (s : List ℕ) (at n : ℕ) → n < 4294967296
-    → set (set (set (set s at (n % 256)) (at + 1) (n / 256 % 256)) (at + 2) (n / 65536 % 256)) (at + 3) (n / 16777216) ≡ sets s at (each 4 (byteOf n))
+pub spread-small : (b : ℕ) → b < 256 → spread 8 b ≤ 72340172838076673
+spread-small b l = leb-true _ _ (holds-below 256 (λ (b : ℕ). leb (spread 8 b) 72340172838076673) small-all b l)
+
+spelt : ℕ → ℕ → Bool
+spelt i b = eqb (byteOf (spread 8 b) i) (bitAt b i)
+
+spelt-all : any 8 (λ (i : ℕ). not (not (any 256 (λ (b : ℕ). not (spelt i b))))) ≡ false
+unfolding spelt spread byteOf any
+spelt-all = refl
+
+pub not-not : (t : Bool) → not t ≡ true → t ≡ false
+not-not true e = absurd (true≢false (sym e))
+not-not false e = refl
+
+pub byte-bit : (b i : ℕ) → b < 256 → i < 8 → byteOf (spread 8 b) i ≡ bitAt b i
+unfolding spelt
+byte-bit b i l m =
+    eqb-true _ _ (holds-below 256 (spelt i) (not-not (any 256 (λ (b : ℕ). not (spelt i b))) (holds-below 8 (λ (i : ℕ). not (any 256 (λ (b : ℕ). not (spelt i b)))) spelt-all i m)) b l)
+
+-- a table that is made from the first place on
+pub record Making (t : List ℕ) (n : ℕ) : Type 0 where
+  pub long : length t ≡ 256
+  pub made : (b : ℕ) → b < n → getD t b 0 ≡ spread 8 b
+
+pub making-first : (t : List ℕ) → length t ≡ 256 → Making (set t 0 0) 1
+unfolding spread
+making-first t e =
+    record {
+      long = length-set t 0 0 ∙ e;
+      made = λ b l. let z : b ≡ 0 = omega arith in ap (λ (n : ℕ). getD (set t 0 0) n 0) z ∙ getD-set-same t 0 0 0 (omega arith) ∙ ap (spread 8) (sym z);
+    }
+
+pub making-next : {t : List ℕ} {n v : ℕ} → Making t n → 1 ≤ n → n < 256 → v ≡ getD t (n / 2) 0 / 256 + n % 2 * 72057594037927936 → Making (set t n v) (n + 1)
+making-next {t} {n} {v} h l m e = record { long = length-set t n v ∙ h .long; made = λ b k. by b k (ℕ-discrete b n) }
+  where
+    by : (b : ℕ) → b < n + 1 → Dec (b ≡ n) → getD (set t n v) b 0 ≡ spread 8 b
+    by b k (yes f) =
+        ap (λ (i : ℕ). getD (set t n v) i 0) f
+        ∙ getD-set-same t n v 0 (omega (arith, h .long))
+        ∙ e ∙ ap (λ (w : ℕ). w / 256 + n % 2 * 72057594037927936) (h .made (n / 2) (omega arith)) ∙ halved-is n m
+        ∙ ap (spread 8) (sym f)
+    by b k (no f) = getD-set-other t n b v 0 f ∙ h .made b (omega arith)
+
+pub making-done : {t : List ℕ} {n : ℕ} → Making t n → 256 ≤ n → Table t
+making-done h l = record { long = h .long; is = λ b m. h .made b (omega arith) }
+
+-- eight cells by eight stores
+pub eight-put : (s : List ℕ) (at n : ℕ)
+    → set (set (set (set (set (set (set (set s at (n % 256)) (at + 1) (n / 256 % 256)) (at + 2) (n / 65536 % 256)) (at + 3) (n / 16777216 % 256)) (at + 4) (n / 4294967296 % 256)) (at + 5) (n / 1099511627776 % 256)) (at + 6) (n / 281474976710656 % 256)) (at + 7) (n / 72057594037927936 % 256)
+    ≡ sets s at (each 8 (byteOf n))
 unfolding byteOf each
-four-put s at n l =
+eight-put s at n =
     let a : n % 256 ≡ n / 1 % 256 = omega arith in
-    let d : n / 16777216 ≡ n / 16777216 % 256 = omega arith in
     let e1 : at + 1 ≡ suc at = omega arith in
     let e2 : at + 2 ≡ suc (suc at) = omega arith in
     let e3 : at + 3 ≡ suc (suc (suc at)) = omega arith in
-    rw (e1, e2, e3) (λ i. set (set (set (set s at (a i)) (suc at) (n / 256 % 256)) (suc (suc at)) (n / 65536 % 256)) (suc (suc (suc at))) (d i))
+    let e4 : at + 4 ≡ suc (suc (suc (suc at))) = omega arith in
+    let e5 : at + 5 ≡ suc (suc (suc (suc (suc at)))) = omega arith in
+    let e6 : at + 6 ≡ suc (suc (suc (suc (suc (suc at))))) = omega arith in
+    let e7 : at + 7 ≡ suc (suc (suc (suc (suc (suc (suc at)))))) = omega arith in
+    rw (e1, e2, e3, e4, e5, e6, e7, a) refl

@@ -18,7 +18,8 @@ use Rattle.sheet.specs.declared.Shape.{Shape}
 use Rattle.sheet.proofs.Places.{getD-by, getD-kept, by-as, by-none, by-then, written, put-by, written-in, written-before, written-after}
 use Rattle.pbm.specs.Picture.{rowBytes, packed, bitOf, sheetBit, rasterByte}
 use Rattle.pbm.specs.Reading.{bitAt}
-use Rattle.pbm.specs.Inner.{flagAt, Flags, packedAt, rowBit, laid}
+use Rattle.pbm.specs.Inner.{flagAt, Flags, packedAt, spread, byteOf, rowBit, laid}
+use Rattle.pbm.proofs.Bits.{byte-bit}
 
 -- the first n of some numbers are put at a place, one after the other
 pub record Puts (before : List ℕ) (at : ℕ) (f : ℕ → ℕ) (out : List ℕ) (n : ℕ) : Type 0 where
@@ -61,12 +62,16 @@ few-cells z e n f h g l =
     ∙ take-at (each n f) (each (8 - n) (λ (i : ℕ). f (n + i))) n (length-each n f)
 
 -- the bits of a row's byte j
-pub row-bits : (p : List ℕ) (from j i : ℕ) → i < 8 → bitAt (getD p (from + j) 0) i ≡ rowBit p from (j * 8 + i)
+row-bits : (p : List ℕ) (from j i : ℕ) → i < 8 → bitAt (getD p (from + j) 0) i ≡ rowBit p from (j * 8 + i)
 unfolding rowBit
 row-bits p from j i l =
     let q : j ≡ (j * 8 + i) / 8 = omega arith in
     let r : i ≡ (j * 8 + i) % 8 = omega arith in
     ap₂ (λ (a b : ℕ). bitAt (getD p (from + a) 0) b) q r
+
+-- and the cells that a table has for it
+pub cells-are : (p : List ℕ) (from j v i : ℕ) → v ≡ spread 8 (getD p (from + j) 0) → getD p (from + j) 0 < 256 → i < 8 → byteOf v i ≡ rowBit p from (j * 8 + i)
+cells-are p from j v i e l m = ap (λ (n : ℕ). byteOf n i) e ∙ byte-bit (getD p (from + j) 0) i l m ∙ row-bits p from j i m
 
 -- a flag is that of its cell
 pub flag-is : (s : List ℕ) (from x v : ℕ) → v ≡ bitOf (getD s (from + x) 0) → v ≡ flagAt s from x

@@ -1,5 +1,5 @@
 -- What only the inner functions promise each other.
-use Prim.Native.Nat.{ℕ, _+_, _*_, _/_, _%_, _^_, _≤_, _<_}
+use Prim.Native.Nat.{ℕ, zero, suc, _+_, _*_, _/_, _%_, _^_, _≤_, _<_}
 use mathlib.Core.Path.{_≡_}
 use mathlib.Core.List.{List}
 use mathlib.Core.Bool.{true, false, cond, _&&_}
@@ -43,13 +43,14 @@ fourOf f at = getD f at 0 + getD f (at + 1) 0 * 256 + (getD f (at + 2) 0 + getD 
 unfoldable pub packedAt : List ℕ → ℕ → ℕ
 packedAt f at = packed 8 (λ (i : ℕ). getD f (at + i) 0)
 
--- four bits in the bytes of a number, the highest in the lowest; a table of these; and byte i of a number
-unfoldable pub spread : ℕ → ℕ
-spread n = n / 8 + n / 4 % 2 * 256 + n / 2 % 2 * 65536 + n % 2 * 16777216
+-- the cells of a byte's bits in the bytes of a number, the highest bit in the lowest; a table of these; and byte i of a number
+unfoldable pub spread : ℕ → ℕ → ℕ
+spread zero byte = 0
+spread (suc n) byte = spread n byte + bitAt byte n * 256 ^ n
 
 pub record Table (t : List ℕ) : Type 0 where
-  pub long : length t ≡ 16
-  pub is : (n : ℕ) → n < 16 → getD t n 0 ≡ spread n
+  pub long : length t ≡ 256
+  pub is : (byte : ℕ) → byte < 256 → getD t byte 0 ≡ spread 8 byte
 
 unfoldable pub byteOf : ℕ → ℕ → ℕ
 byteOf n i = n / 256 ^ i % 256

@@ -6,30 +6,9 @@ ghost use lib.Seq.{sets};
 ghost use Rattle.laws.specs.Below.{each};
 ghost use Rattle.sheet.specs.Inner.{Sheet};
 ghost use Rattle.pbm.specs.Picture.{rowBytes, rasterBytes, bitOf, rasterByte};
-ghost use Rattle.pbm.specs.Reading.{bitAt};
 ghost use Rattle.pbm.specs.Inner.{spread, Table, byteOf, flagAt, fourOf, Flags, packedAt, rowBit, laid};
 use crate::put;
 use sheet::Shape;
-
-// Four bits as four cells of ink 1 and 0, the highest bit in the lowest byte.
-const SPREAD: [u32; 16] = [
-    0x0000_0000,
-    0x0100_0000,
-    0x0001_0000,
-    0x0101_0000,
-    0x0000_0100,
-    0x0100_0100,
-    0x0001_0100,
-    0x0101_0100,
-    0x0000_0001,
-    0x0100_0001,
-    0x0001_0001,
-    0x0101_0001,
-    0x0000_0101,
-    0x0100_0101,
-    0x0001_0101,
-    0x0101_0101,
-];
 
 // How many bytes a row takes.
 pub(crate) fn row_bytes(width: usize) -> usize
@@ -107,63 +86,76 @@ pub(crate) fn put_rows(sheet: &[u8], shape: Shape, out: &mut [u8], at: usize)
     }
 }
 
-// Four cells of ink 1 and 0, by four bits.
-fn cells_of(table: &[u32], bits: u8) -> u32
-    requires { ⌜ Table (now table) × (bits < 16) ⌝ }
-    ensures { λ r. ⌜ r ≡ spread bits ⌝ }
+// Makes the table of the eight cells of each byte, ink 1 and 0: those of its half, one further, and its last bit.
+fn make_table(table: &mut [u64])
+    requires { ⌜ length (now table) ≡ 256 ⌝ }
+    ensures { λ _. ⌜ Table (now (table .exit)) ⌝ }
 {
-    table[bits as usize]
+    table[0] = 0;
+    let mut byte: usize = 1;
+    while byte < 256 {
+        table[byte] = table[byte / 2] / 256 + (byte % 2) as u64 * 0x0100_0000_0000_0000;
+        byte += 1;
+    }
 }
 
-// Lays four cells, the bytes of a number.
-fn lay_four(sheet: &mut [u8], at: usize, cells: u32)
-    requires { ⌜ at + 4 ≤ length (now sheet) ⌝ }
-    ensures { λ _. ⌜ now (sheet .exit) ≡ sets (now (sheet .entry)) at (each 4 (byteOf cells)) ⌝ }
+// The eight cells of a byte.
+fn cells_of(table: &[u64], byte: u8) -> u64
+    requires { ⌜ Table (now table) ⌝ }
+    ensures { λ r. ⌜ (r ≡ spread 8 byte) × (byte < 256) ⌝ }
+{
+    table[byte as usize]
+}
+
+// Lays eight cells, the bytes of a number, which the compiler does by one store.
+fn lay(sheet: &mut [u8], at: usize, cells: u64)
+    requires { ⌜ at + 8 ≤ length (now sheet) ⌝ }
+    ensures { λ _. ⌜ now (sheet .exit) ≡ sets (now (sheet .entry)) at (each 8 (byteOf cells)) ⌝ }
 {
     sheet[at] = (cells % 256) as u8;
-    sheet[at + 1] = (cells / 256 % 256) as u8;
-    sheet[at + 2] = (cells / 65536 % 256) as u8;
-    sheet[at + 3] = (cells / 16777216) as u8;
+    sheet[at + 1] = (cells / 0x0100 % 256) as u8;
+    sheet[at + 2] = (cells / 0x0001_0000 % 256) as u8;
+    sheet[at + 3] = (cells / 0x0100_0000 % 256) as u8;
+    sheet[at + 4] = (cells / 0x0001_0000_0000 % 256) as u8;
+    sheet[at + 5] = (cells / 0x0100_0000_0000 % 256) as u8;
+    sheet[at + 6] = (cells / 0x0001_0000_0000_0000 % 256) as u8;
+    sheet[at + 7] = (cells / 0x0100_0000_0000_0000 % 256) as u8;
 }
 
-// Lays the eight cells of a byte.
-fn lay(sheet: &mut [u8], at: usize, byte: u8, table: &[u32])
-    requires { ⌜ (at + 8 ≤ length (now sheet)) × Table (now table) ⌝ }
-    ensures { λ _. ⌜ now (sheet .exit) ≡ sets (now (sheet .entry)) at (each 8 (bitAt byte)) ⌝ }
-{
-    lay_four(sheet, at, cells_of(table, byte / 16));
-    lay_four(sheet, at + 4, cells_of(table, byte % 16));
-}
-
-// Lays the first few cells of a byte.
-fn lay_few(sheet: &mut [u8], at: usize, cells: usize, byte: u8, table: &[u32])
-    requires { ⌜ (at + cells ≤ length (now sheet)) × (cells ≤ 8) × Table (now table) ⌝ }
-    ensures { λ _. ⌜ now (sheet .exit) ≡ sets (now (sheet .entry)) at (each cells (bitAt byte)) ⌝ }
+// Lays the first few of eight cells.
+fn lay_few(sheet: &mut [u8], at: usize, few: usize, cells: u64)
+    requires { ⌜ (at + few ≤ length (now sheet)) × (few ≤ 8) ⌝ }
+    ensures { λ _. ⌜ now (sheet .exit) ≡ sets (now (sheet .entry)) at (each few (byteOf cells)) ⌝ }
 {
     let mut eight = [0u8; 8];
-    lay(&mut eight, 0, byte, table);
-    put(sheet, at, &eight[..cells]);
+    lay(&mut eight, 0, cells);
+    put(sheet, at, &eight[..few]);
 }
 
 // Lays a row of a picture.
-fn lay_row(sheet: &mut [u8], at: usize, width: usize, picture: &[u8], from: usize, table: &[u32])
+fn lay_row(sheet: &mut [u8], at: usize, width: usize, picture: &[u8], from: usize, table: &[u64])
     requires { ⌜ (at + width ≤ length (now sheet)) × (width ≤ 4096) × (from + rowBytes width ≤ length (now picture)) × Table (now table) ⌝ }
     ensures { λ _. ⌜ now (sheet .exit) ≡ sets (now (sheet .entry)) at (each width (rowBit (now (picture .entry)) from)) ⌝ }
 {
     let whole = width / 8;
     let mut j = 0;
     while j < whole {
-        lay(sheet, at + j * 8, picture[from + j], table);
+        lay(sheet, at + j * 8, cells_of(table, picture[from + j]));
         j += 1;
     }
     let left = width - whole * 8;
     if left == 0 {
         return;
     }
-    lay_few(sheet, at + whole * 8, left, picture[from + whole], table);
+    lay_few(
+        sheet,
+        at + whole * 8,
+        left,
+        cells_of(table, picture[from + whole]),
+    );
 }
 
-// Lays the rows of a picture. The table is copied once, since a constant is copied wherever it is read.
+// Lays the rows of a picture.
 pub(crate) fn lay_rows(sheet: &mut [u8], shape: Shape, picture: &[u8], from: usize)
     requires { ⌜ Sheet shape (now sheet) × (from + rasterBytes shape ≤ length (now picture)) ⌝ }
     ensures { λ _. ⌜ now (sheet .exit) ≡ laid shape (now (picture .entry)) from (shape .height) (now (sheet .entry)) ⌝ }
@@ -172,7 +164,8 @@ pub(crate) fn lay_rows(sheet: &mut [u8], shape: Shape, picture: &[u8], from: usi
     let height = shape.height as usize;
     let pitch = shape.pitch as usize;
     let count = row_bytes(width);
-    let table = SPREAD;
+    let mut table = [0u64; 256];
+    make_table(&mut table);
     let mut y = 0;
     while y < height {
         lay_row(sheet, y * pitch, width, picture, from + y * count, &table);

@@ -1,6 +1,6 @@
 -- `pbm::rows::lay_rows` meets its contract.
 use Prim.Native.Nat.{ℕ, _+_, _*_, _-_, _≤_}
-use mathlib.Core.Path.{_≡_, refl, ap, _∙_}
+use mathlib.Core.Path.{_≡_, refl, sym, ap, _∙_}
 use native.Mathlib.Omega.{arith}
 use borrow.Author.Needs.{needs}
 use denote.Ref.{now}
@@ -8,7 +8,6 @@ use lib.ListN.{length}
 use Rattle.sheet.proofs.Limits.{row-ends, row-small}
 use Rattle.pbm.specs.Picture.{rasterBytes}
 use Rattle.pbm.specs.Inner.{laid}
-use Rattle.pbm.proofs.Bits.{table-is}
 use Rattle.pbm.proofs.Raster.{Lays, lays-none, lays-one, raster-ends, raster-small}
 use Rattle.pbm.proofs.rows.lay_rows.Statement.{statement}
 use Rattle.pbm.proofs.rows.lay_rows.Tie as tie
@@ -31,24 +30,30 @@ cast-pitch c = search needs
 row-bytes-requires : tie.Need-row-bytes-requires Inv-loop μ-loop
 row-bytes-requires c κs = c .before .before .before .before .before .pre .0 .wide
 
+slice-aggregate-make-table : tie.Need-slice-aggregate-make-table Inv-loop μ-loop
+slice-aggregate-make-table c = refl
+
+make-table-requires : tie.Need-make-table-requires Inv-loop μ-loop
+make-table-requires c κs = refl
+
 loop-holds : tie.Need-loop-holds Inv-loop μ-loop
 loop-holds c = (lays-none _ _ _ _ _, omega arith)
 
 mul-lay-row : tie.Need-mul-lay-row Inv-loop μ-loop
 mul-lay-row c =
-    let s = c .before .before .before .before .before .before .before .before .before in
+    let s = c .before .before .before .before .before .before .before .before .before .before .before .before in
     omega (arith, row-small (s .pre .0) (c .before .before .loop .y) (c .before .loop-test .taken))
 
 mul-lay-row-2 : tie.Need-mul-lay-row-2 Inv-loop μ-loop
 mul-lay-row-2 c =
-    let r = c .before .before .before in
+    let r = c .before .before .before .before .before .before in
     let s = r .before .before .before .before .before .before in
     omega (arith, raster-small (c .before .before .loop .y) (r .row-bytes .result) (omega (arith, c .before .loop-test .taken, s .pre .0 .high)) (r .row-bytes .ensures .1))
 
-rows-end : (c : tie.In-loop Inv-loop μ-loop) → let r = c .before .before in let a = r .before .before .before .before .before .before .args in
+rows-end : (c : tie.In-loop Inv-loop μ-loop) → let r = c .before .before .before .before .before in let a = r .before .before .before .before .before .before .args in
     a .from + (c .before .loop .y * r .row-bytes .result + r .row-bytes .result) ≤ length (now (a .picture))
 rows-end c =
-    let r = c .before .before in
+    let r = c .before .before .before .before .before in
     let s = r .before .before .before .before .before .before in
     let k = s .args .shape in
     let same : k .height * r .row-bytes .result ≡ rasterBytes k = ap (λ (n : ℕ). k .height * n) (r .row-bytes .ensures .0) in
@@ -58,16 +63,18 @@ add-lay-row : tie.Need-add-lay-row Inv-loop μ-loop
 add-lay-row c = omega (arith, rows-end (c .before))
 
 slice-aggregate-lay-row : tie.Need-slice-aggregate-lay-row Inv-loop μ-loop
-slice-aggregate-lay-row c = refl
+slice-aggregate-lay-row c = sym (c .before .before .before .before .before .make-table .ensures .long)
 
 lay-row-requires : tie.Need-lay-row-requires Inv-loop μ-loop
 lay-row-requires c κs =
-    let r = c .before .before .before .before in
-    let z = r .before .before .before .before .before .before .pre .0 in
+    let made = c .before .before .before .before .before in
+    let r = made .before .before in
+    let s = r .before .before .before .before .before .before in
+    let z = s .pre .0 in
     let l = c .before .before .before .loop in
-    let k = r .before .before .before .before .before .before .args .shape in
+    let k = s .args .shape in
     let room : l .y * k .pitch + k .width ≤ length (l .sheet) = omega (arith, l .inv .0 .size, row-ends z (l .y) (c .before .before .loop-test .taken), z .disjoint) in
-    (room, z .wide, omega (arith, rows-end (c .before .before), r .row-bytes .ensures .0), table-is)
+    (room, z .wide, omega (arith, rows-end (c .before .before), r .row-bytes .ensures .0), made .make-table .ensures)
 
 add-y : tie.Need-add-y Inv-loop μ-loop
 add-y c = search needs
@@ -78,7 +85,7 @@ loop-less c = search needs
 loop-again : tie.Need-loop-again Inv-loop μ-loop
 loop-again c =
     let l = c .before .before .before .before .before .before .loop in
-    let r = c .before .before .before .before .before .before .before in
+    let r = c .before .before .before .before .before .before .before .before .before .before in
     let z = r .before .before .before .before .before .before .pre .0 in
     (lays-one _ (r .row-bytes .result) (z .disjoint) (z .broad) (l .inv .0) (r .row-bytes .ensures .0) (c .before .before .lay-row .ensures), omega (arith, c .before .before .before .before .before .loop-test .taken))
 
@@ -88,7 +95,7 @@ same-length c = c .before .loop .inv .0 .size
 returns : tie.Need-returns Inv-loop μ-loop
 returns c =
     let l = c .before .loop in
-    let a = c .before .before .before .before .before .before .before .before .args in
+    let a = c .before .before .before .before .before .before .before .before .before .before .before .args in
     let e : l .y ≡ a .shape .height = omega (arith, l .inv .1, c .loop-test .left) in
     l .inv .0 .is (a .shape) refl refl ∙ ap (λ (n : ℕ). laid (a .shape) (now (a .picture)) (a .from) n (now (a .sheet))) e
 
@@ -102,6 +109,8 @@ lay-rows-spec =
     cast-height
     cast-pitch
     row-bytes-requires
+    slice-aggregate-make-table
+    make-table-requires
     loop-holds
     mul-lay-row
     mul-lay-row-2
