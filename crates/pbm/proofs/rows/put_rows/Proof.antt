@@ -6,7 +6,7 @@ use borrow.Author.Needs.{needs}
 use denote.Ref.{now}
 use lib.ListN.{length}
 use Rattle.sheet.proofs.Limits.{row-ends, row-small}
-use Rattle.pbm.specs.Picture.{rowBytes}
+use Rattle.pbm.specs.Picture.{rowBytes, rasterBytes}
 use Rattle.pbm.proofs.Raster.{Rasters, flag-small, flags-small, padded-again, padded-zeros, puts-end, raster-ends, raster-small, rasters-none, rasters-one}
 use Rattle.pbm.proofs.rows.put_rows.Statement.{statement}
 use Rattle.pbm.proofs.rows.put_rows.Tie as tie
@@ -60,14 +60,17 @@ mul-pack-row c =
     let s = r .before .before .before .before .before .before in
     omega (arith, raster-small (c .before .before .before .before .before .before .loop .y) (r .row-bytes .result) (omega (arith, c .before .before .before .before .before .loop-test .taken, s .pre .0 .high)) (r .row-bytes .ensures .1))
 
-add-pack-row : tie.Need-add-pack-row Inv-loop μ-loop
-add-pack-row c =
-    let r = c .before .before .before .before .before .before .before in
+rows-end : (c : tie.In-loop Inv-loop μ-loop) → let r = c .before .before in let a = r .before .before .before .before .before .before .args in
+    a .at + (c .before .loop .y * r .row-bytes .result + r .row-bytes .result) ≤ length (now (a .out))
+rows-end c =
+    let r = c .before .before in
     let s = r .before .before .before .before .before .before in
     let k = s .args .shape in
-    let count = r .row-bytes .result in
-    let same : k .height * count ≡ k .height * rowBytes (k .width) = ap (λ (n : ℕ). k .height * n) (r .row-bytes .ensures .0) in
-    omega (arith, raster-ends (k .height) (c .before .before .before .before .before .before .loop .y) count (c .before .before .before .before .before .loop-test .taken), same, s .pre .1)
+    let same : k .height * r .row-bytes .result ≡ rasterBytes k = ap (λ (n : ℕ). k .height * n) (r .row-bytes .ensures .0) in
+    omega (arith, raster-ends (k .height) (c .before .loop .y) (r .row-bytes .result) (c .loop-test .taken), same, s .pre .1)
+
+add-pack-row : tie.Need-add-pack-row Inv-loop μ-loop
+add-pack-row c = omega (arith, rows-end (c .before .before .before .before .before))
 
 pack-row-requires : tie.Need-pack-row-requires Inv-loop μ-loop
 pack-row-requires c κs =
@@ -75,13 +78,11 @@ pack-row-requires c κs =
     let l = f .before .before .before .loop in
     let r = f .before .before .before .before in
     let s = r .before .before .before .before .before .before in
-    let k = s .args .shape in
     let z = s .pre .0 in
     let count = r .row-bytes .result in
-    let same : k .height * count ≡ k .height * rowBytes (k .width) = ap (λ (n : ℕ). k .height * n) (r .row-bytes .ensures .0) in
-    let room : s .args .at + l .y * count + count ≤ length (l .out) = omega (arith, raster-ends (k .height) (l .y) count (f .before .before .loop-test .taken), same, s .pre .1, l .inv .0 .size) in (
+    let room : s .args .at + l .y * count + count ≤ length (l .out) = omega (arith, rows-end (f .before .before), l .inv .0 .size) in (
       omega (arith, padded-again _ _ _ _ (z .wide) (l .inv .0 .padded) (f .flag-row .ensures) .size, r .row-bytes .ensures .1),
-      flags-small _ _ _ _ (z .wide) (l .inv .0 .padded) (f .flag-row .ensures) (λ x. flag-small (now (s .args .sheet)) (l .y * k .pitch) x),
+      flags-small _ _ _ _ (z .wide) (l .inv .0 .padded) (f .flag-row .ensures) (λ x. flag-small (now (s .args .sheet)) (l .y * s .args .shape .pitch) x),
       room,
     )
 
