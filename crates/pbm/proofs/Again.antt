@@ -35,7 +35,7 @@ use Rattle.pbm.specs.Shown.{SameSize, cleared}
 use Rattle.pbm.proofs.Answers.{bit-ink}
 use Rattle.pbm.proofs.Bits.{holds-below, not-not}
 use Rattle.pbm.proofs.Grammar.{page-names, names-page}
-use Rattle.pbm.proofs.Raster.{packed-as, raster-ends}
+use Rattle.pbm.proofs.Raster.{bit-small, packed-as, raster-ends}
 use Rattle.pbm.proofs.Standing.{digit-value}
 
 -- the value of decimal digits is the number that they were made of
@@ -172,10 +172,6 @@ bit-bit (suc (suc b)) l = absurd (omega arith)
 sheet-bit : (k : Shape) (s : List ℕ) (x y : ℕ) → x < k .width → sheetBit k s y x ≡ bitOf (getD s (place k (cellOf x y)) 0)
 unfolding sheetBit
 sheet-bit k s x y l = ap (λ (t : Bool). cond t (bitOf (getD s (place k (cellOf x y)) 0)) 0) (lt-ltb x (k .width) l)
-
-bit-small : (t : Bool) → cond t 0 1 ≤ 1
-bit-small true = omega arith
-bit-small false = omega arith
 
 sheet-small : (k : Shape) (s : List ℕ) (y x : ℕ) → sheetBit k s y x ≤ 1
 unfolding sheetBit

@@ -78,7 +78,7 @@ pub flag-is : (s : List ℕ) (from x v : ℕ) → v ≡ bitOf (getD s (from + x)
 unfolding flagAt
 flag-is s from x v e = e
 
-bit-small : (t : Bool) → cond t 0 1 ≤ 1
+pub bit-small : (t : Bool) → cond t 0 1 ≤ 1
 bit-small true = omega arith
 bit-small false = omega arith
 
