@@ -39,6 +39,7 @@ valueAfter v (c ∷ s) = valueAfter (10 * v + (c - 48)) s
 
 -- The page: the magic number, blanks, the width, blanks, the height, and a single blank, after which the rows begin.
 pub record Headed (file : List ℕ) (width height : ℕ) (rows : List ℕ) : Type 0 where
+  -- the parts after P4, and what each is
   pub gap : List ℕ
   pub across : List ℕ
   pub space : List ℕ
@@ -49,6 +50,8 @@ pub record Headed (file : List ℕ) (width height : ℕ) (rows : List ℕ) : Typ
   pub spaces : Some blank space
   pub downs : Some digit down
   pub lasts : blank last ≡ true
+  -- the sizes, in decimal
   pub wide : valueAfter 0 across ≡ width
   pub high : valueAfter 0 down ≡ height
+  -- and the file begins with all of it, comments skipped
   pub begins : Begins (80 ∷ 52 ∷ (gap ++ (across ++ (space ++ (down ++ (last ∷ [])))))) file rows
