@@ -7,7 +7,7 @@ use native.Mathlib.Nat.{add-zero, add-suc}
 use native.Mathlib.Numerals.{add-one}
 use native.Mathlib.Decide.{decLt}
 use lib.ListN.{length, getD, set, length-append}
-use lib.Seq.{sets, ext-getD, getD-at}
+use lib.Seq.{sets, getD-at}
 use Rattle.laws.specs.Below.{each}
 use Rattle.laws.proofs.Written.{sets-append}
 
@@ -36,10 +36,6 @@ pub each-as : (n : ℕ) (f g : ℕ → ℕ) → ((i : ℕ) → i < n → f i ≡
 unfolding each
 each-as zero f g h = refl
 each-as (suc n) f g h = ap₂ (λ (a : List ℕ) (v : ℕ). a ++ (v ∷ [])) (each-as n f g (λ i l. h i (omega arith))) (h n (omega arith))
-
--- a list is what its places hold
-pub each-list : (s : List ℕ) (n : ℕ) (f : ℕ → ℕ) → length s ≡ n → ((i : ℕ) → i < n → getD s i 0 ≡ f i) → s ≡ each n f
-each-list s n f e h = ext-getD 0 s (each n f) (e ∙ sym (length-each n f)) (λ i l. h i (omega arith) ∙ sym (getD-each n f i (omega arith)))
 
 -- some, and then others
 pub each-plus : (m n : ℕ) (f : ℕ → ℕ) → each (m + n) f ≡ each m f ++ each n (λ (i : ℕ). f (m + i))
