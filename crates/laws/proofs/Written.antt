@@ -1,11 +1,11 @@
 -- Texts written one after the other: `sets l at p` is the list l with p written from place `at` on.
 use Prim.Native.Nat.{ℕ, suc, ◌+◌, ◌-◌, ◌≤◌}
 use mathlib.Core.Path.{◌≡◌, sym, ap, ap₂, ◌∙◌}
-use mathlib.Core.List.{List, [], ◌∷◌, ◌++◌, append_assoc, append-nil}
+use mathlib.Core.List.{List, [], ◌∷◌, ◌++◌, append_assoc}
 use native.Mathlib.Omega.{arith}
 use native.Mathlib.Nat.{add-zero, zero-add}
-use lib.ListN.{length, set, take, drop, length-append, length-drop, drop_of_length-le}
-use lib.Seq.{sets, sets-eq, take_all, take-length, drop-drop}
+use lib.ListN.{length, set, take, drop, length-append}
+use lib.Seq.{sets, sets-eq, drop-drop}
 
 -- two parts written in turn are one
 pub sets_append : (p q l : List ℕ) (at : ℕ) → sets l at (p ++ q) ≡ sets (sets l at p) (at + length p) q
@@ -41,19 +41,12 @@ pub write_ends : (before text out : List ℕ) (next : ℕ) → Written before te
 write_ends before text out next w l =
     (w.long, w.bytes ∙ sets-eq text before 0 (omega (arith, w.long)) ∙ ap (λ (k : ℕ). text ++ drop k before) (zero-add (length text)))
 
--- bytes copied over the beginning of what stands from a place on are put there
-pub put_from : (s part m : List ℕ) (at : ℕ) → at + length part ≤ length s
-    → m ≡ take (length part) part ++ drop (length part) (take (length s - at) (drop at s))
-    → take at s ++ (m ++ drop (length s - at) (drop at s)) ≡ sets s at part
-put_from s part m at h e =
-    let rest = drop at s in
-    let n : length rest ≡ length s - at = length-drop at s in
-    let all : take (length s - at) rest ≡ rest = take_all (length s - at) rest (omega arith) in
-    let none : drop (length s - at) rest ≡ [] = drop_of_length-le rest {i = length s - at} (omega arith) in
-    let mid : m ≡ part ++ drop (at + length part) s =
-    e ∙ ap₂ (λ (a b : List ℕ). a ++ drop (length part) b) (take-length part) all
-    ∙ ap (λ (b : List ℕ). part ++ b) (drop-drop (length part) at s) in
-    ap₂ (λ (a b : List ℕ). take at s ++ (a ++ b)) mid none
-    ∙ ap (λ (b : List ℕ). take at s ++ b) (append-nil (part ++ drop (at + length part) s))
+-- bytes copied over as many from a place on are put there
+pub put_part : (s part m : List ℕ) (at : ℕ) → at + length part ≤ length s → m ≡ part
+    → take at s ++ (m ++ drop (at + length part - at) (drop at s)) ≡ sets s at part
+put_part s part m at h e =
+    let n : at + length part - at ≡ length part = omega arith in
+    ap₂ (λ (a : List ℕ) (k : ℕ). take at s ++ (a ++ drop k (drop at s))) e n
+    ∙ ap (λ (b : List ℕ). take at s ++ (part ++ b)) (drop-drop (length part) at s)
     ∙ sym (append_assoc (take at s) part (drop (at + length part) s))
     ∙ sym (sets-eq part s at h)
