@@ -1,4 +1,6 @@
 // The sheet, the table of refusals, and marking: what every figure stands on.
+#![tactic(auto)]
+
 ghost use Rattle.std.specs.Prelude.{◌≡◌, []};
 ghost use Rattle.sheet.specs.Sheet.{size, pitched, coordinate, within_limits, semi_axis, axes, split};
 ghost use Rattle.sheet.specs.Repaint.{nothing};
@@ -12,21 +14,21 @@ pub use repaint::{Rectangle, join_at};
 
 // A cell of the unlimited grid. A pen that C lends holds two, so it has C's layout.
 #[repr(C)]
-#[derive(Drop)]
+#[derive(Clone, Copy)]
 pub struct Cell {
     pub x: i32,
     pub y: i32,
 }
 
 // A cell of the moved plane, on which the code works.
-#[derive(Drop)]
+#[derive(Clone, Copy)]
 pub struct Spot {
     pub x: u32,
     pub y: u32,
 }
 
 // A figure, with its fields in the order of its record.
-#[derive(Drop)]
+#[derive(Clone, Copy)]
 pub enum Figure {
     // the two ends
     Line(Cell, Cell),
@@ -41,7 +43,7 @@ pub enum Figure {
 }
 
 // The size of a sheet, and its pitch: how many bytes after a cell the one below it stands.
-#[derive(Drop)]
+#[derive(Clone, Copy)]
 pub struct Shape {
     pub width: u32,
     pub height: u32,
@@ -49,7 +51,7 @@ pub struct Shape {
 }
 
 // Why an input is refused: one case for each number of the table.
-#[derive(Drop)]
+#[derive(Clone, Copy)]
 pub enum Refusal {
     // 1: a sheet size or pitch is outside its limits.
     Size,
@@ -124,7 +126,7 @@ impl Refusal {
 }
 
 // The reply of a drawing, of a listing and of a file.
-#[derive(Drop)]
+#[derive(Clone, Copy)]
 pub enum Reply {
     Done,
     // how many: a line's or a territory's cells on the sheet, those listed, a file's records, a picture's bytes
@@ -168,7 +170,7 @@ impl Reply {
 }
 
 // What came of a drawing: the reply, and what to repaint, which is nothing where it is refused.
-#[derive(Drop)]
+#[derive(Clone, Copy)]
 pub struct Drawn {
     pub reply: Reply,
     pub rectangle: Rectangle,

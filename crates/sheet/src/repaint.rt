@@ -7,7 +7,7 @@ use crate::{Shape, Spot};
 
 // A rectangle of cells: the columns from left to before right, and the rows from top to before bottom. One that holds no cell is
 // from 4,096, which no sheet has, to 0.
-#[derive(Drop)]
+#[derive(Clone, Copy)]
 pub struct Rectangle {
     pub left: u32,
     pub top: u32,
