@@ -97,7 +97,7 @@ fn hop(shape: Shape, course: Course, at: usize, across: bool) -> usize
 }
 
 // What a walk has in hand, in parts of 2^32, and what each turn adds; where the sum wraps, the step is along both extents.
-#[derive(Drop)]
+#[derive(Clone, Copy)]
 struct Slope {
     start: u32,
     by: u32,

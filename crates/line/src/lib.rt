@@ -1,4 +1,6 @@
 // Lines: the drawing, the listing and the pen, all by one rule.
+#![tactic(auto)]
+
 ghost use Rattle.std.specs.Prelude.{◌≡◌, ◌+◌, ◌*◌, ◌≤◌, min, max, ◌&&◌, if◌then◌else◌};
 ghost use Rattle.sheet.specs.Sheet.{within_limits};
 ghost use Rattle.line.specs.Inner.Course.{gap, stepped, spot_at, lesser_spot, course_between, Runs};
@@ -17,7 +19,7 @@ pub use listing::list_line;
 pub use pen::{Asked, Begun, Pen, Step, advance};
 
 // A line on the moved plane, from its lesser end: where it starts, whether it goes right, whether its longer extent is that of y, and both extents.
-#[derive(Drop)]
+#[derive(Clone, Copy)]
 struct Course {
     x: u32,
     y: u32,

@@ -11,7 +11,7 @@ use sheet::{Cell, Refusal, lift_cell, lower_cell};
 
 // The two ends, from the first named to the second, and how many cells were answered; to C five numbers.
 #[repr(C)]
-#[derive(Drop)]
+#[derive(Clone, Copy)]
 pub struct Pen {
     pub from: Cell,
     pub to: Cell,
@@ -19,21 +19,21 @@ pub struct Pen {
 }
 
 // The reply of a beginning.
-#[derive(Drop)]
+#[derive(Clone, Copy)]
 pub enum Begun {
     Pen(Pen),
     Refused(Refusal),
 }
 
 // The reply of a pen that is asked: the next cell and the pen moved on.
-#[derive(Drop)]
+#[derive(Clone, Copy)]
 pub enum Step {
     Cell(Cell, Pen),
     Finished,
 }
 
 // The reply of a lent pen that is asked: the next cell.
-#[derive(Drop)]
+#[derive(Clone, Copy)]
 pub enum Asked {
     Cell(Cell),
     Finished,

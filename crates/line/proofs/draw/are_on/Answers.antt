@@ -1,0 +1,8 @@
+-- `line::draw::are_on` meets its contract.
+use Rattle.line.proofs.OnSheet.{on_test}
+use Rattle.line.proofs.draw.are_on.Goals as goal
+
+pub returns : goal.returns
+returns c =
+    let a = c.args in
+    on_test a.shape a.a a.b _ _ _ _ c.smaller.ensures c.larger.ensures c.smaller-2.ensures c.larger-2.ensures
