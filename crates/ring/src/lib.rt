@@ -1,4 +1,6 @@
 // Ellipses; a circle is one of equal axes.
+#![tactic(auto)]
+
 ghost use Rattle.std.specs.Prelude.{◌≡◌, true, ◌-◌, ◌≤◌, ◌<◌, min, max};
 ghost use Rattle.sheet.specs.Sheet.{paint, axes};
 ghost use Rattle.sheet.specs.Repaint.{box_of};
@@ -20,7 +22,7 @@ use sheet::{Cell, Drawn, Rectangle, Refusal, Reply, Shape, Spot};
 
 // A ring as it lies on a sheet: the middle, on the moved plane, and the semi-axes; how far from the middle its columns on the sheet are,
 // from the least to before past; and whether all its columns are on it.
-#[derive(Drop)]
+#[derive(Clone, Copy)]
 struct Ring {
     x: usize,
     y: usize,
