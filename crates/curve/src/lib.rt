@@ -1,4 +1,6 @@
 // Bézier curves of three or four control points: the points of each by their differences, and the lines that join them.
+#![tactic(auto)]
+
 ghost use Rattle.std.specs.Prelude.{◌≡◌, ◌+◌, ◌/◌, ◌^◌, ◌<◌, ◌≤◌, true, ◌&&◌, [], ◌∷◌, nat_le};
 ghost use Rattle.sheet.specs.Sheet.{within_limits, paint};
 ghost use Rattle.sheet.specs.Repaint.{box_of};
@@ -13,14 +15,14 @@ ghost use Rattle.curve.specs.Inner.{points_of, changes_at, Little, Small, Walks,
 use sheet::{Cell, Drawn, Rectangle, Refusal, Reply, Shape, Spot};
 
 // The control points of a curve.
-#[derive(Drop)]
+#[derive(Clone, Copy)]
 enum Controls {
     Three(Cell, Cell, Cell),
     Four(Cell, Cell, Cell, Cell),
 }
 
 // A sum of so many times i, i² and i³.
-#[derive(Drop)]
+#[derive(Clone, Copy)]
 struct Powers {
     one: u64,
     two: u64,
@@ -28,7 +30,7 @@ struct Powers {
 }
 
 // One moved coordinate along a curve, not yet divided: what it is at 0, and what it has gained and lost at i.
-#[derive(Drop)]
+#[derive(Clone, Copy)]
 struct Terms {
     start: u64,
     gains: Powers,
@@ -36,7 +38,7 @@ struct Terms {
 }
 
 // The same at some i, and its differences there, modulo 2^64.
-#[derive(Drop)]
+#[derive(Clone, Copy)]
 struct Walk {
     value: u64,
     first: u64,
@@ -45,7 +47,7 @@ struct Walk {
 }
 
 // Both coordinates, and the shift that divides them.
-#[derive(Drop)]
+#[derive(Clone, Copy)]
 struct Way {
     x: Walk,
     y: Walk,
