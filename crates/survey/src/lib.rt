@@ -1,4 +1,6 @@
 // Metres to cells: a survey, the cell of a float, and a figure in metres.
+#![tactic(auto)]
+
 ghost use Rattle.std.specs.Prelude.{◌≡◌, ◌+◌, ◌≤◌};
 ghost use Rattle.std.specs.Float.{binary64};
 ghost use Rattle.std.specs.Float.Ieee.{of_int};
@@ -11,7 +13,7 @@ ghost use Rattle.survey.specs.Inner.{Between};
 use sheet::{Cell, Figure, Refusal};
 
 // A survey: the origins of x and y and the size of a cell, in metres.
-#[derive(Drop)]
+#[derive(Clone, Copy)]
 pub struct Survey {
     pub east: f64,
     pub north: f64,
@@ -19,14 +21,14 @@ pub struct Survey {
 }
 
 // The cell that a float is in, or that it is in none within the limits.
-#[derive(Drop)]
+#[derive(Clone, Copy)]
 pub enum Found {
     At(i32),
     NoCell,
 }
 
 // A figure in metres, its fields in the order of its record.
-#[derive(Drop)]
+#[derive(Clone, Copy)]
 pub enum Metres {
     // x0, y0, x1, y1
     Line(f64, f64, f64, f64),
@@ -37,7 +39,7 @@ pub enum Metres {
 }
 
 // The figure in cells, within its limits.
-#[derive(Drop)]
+#[derive(Clone, Copy)]
 pub enum InCells {
     Figure(Figure),
     Refused(Refusal),
