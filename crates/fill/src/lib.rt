@@ -1,5 +1,7 @@
 // Filling a territory. A cell that is reached gets the boundary ink at once, so that it is not entered again, and its run of
 // the row is queued; when no more is reached, what was queued gets the territory ink. The cost is that of the territory.
+#![tactic(auto)]
+
 ghost use Rattle.std.specs.Prelude.{◌≡◌, cond, ◌+◌, ◌-◌, ◌*◌, ◌/◌, ◌<◌, ◌≤◌, length, get_or};
 ghost use Rattle.sheet.specs.Reply.{told};
 ghost use Rattle.sheet.specs.Inner.{Sheet};
@@ -32,7 +34,7 @@ fn lesser(a: usize, b: usize) -> usize
 }
 
 // What was taken: where its run ends, and where the queue does.
-#[derive(Drop)]
+#[derive(Clone, Copy)]
 struct Taken {
     past: usize,
     tail: usize,
@@ -69,7 +71,7 @@ fn take(
 }
 
 // A part of a row, from one column to before another.
-#[derive(Drop)]
+#[derive(Clone, Copy)]
 struct Strip {
     row: usize,
     from: usize,
@@ -196,7 +198,7 @@ fn settle(sheet: &mut [u8], work: &[u32], count: usize, shape: Shape, ink: u8) -
 }
 
 // What a territory came to: its cells, and the pieces of the queue that they are in.
-#[derive(Drop)]
+#[derive(Clone, Copy)]
 struct Amount {
     cells: usize,
     pieces: usize,
@@ -225,7 +227,7 @@ fn flood(
 
 // What came of a fill that tells its rows: the reply, and the rows from top to before bottom; from 4,096, which no sheet has, to 0
 // where it set no cell.
-#[derive(Drop)]
+#[derive(Clone, Copy)]
 pub struct Filled {
     pub reply: Reply,
     pub top: u32,
@@ -247,7 +249,7 @@ fn index(z: i32, size: u32) -> u32
 }
 
 // What came of a fill: the reply, and the pieces of the queue, none where it is refused.
-#[derive(Drop)]
+#[derive(Clone, Copy)]
 struct InPieces {
     reply: Reply,
     count: usize,

@@ -6,7 +6,7 @@ use crate::lesser;
 use crate::search::greater;
 
 // The rows from top to before bottom; from 4,096 to 0 for none.
-#[derive(Drop)]
+#[derive(Clone, Copy)]
 pub(crate) struct Span {
     pub(crate) top: u32,
     pub(crate) bottom: u32,
