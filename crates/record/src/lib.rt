@@ -1,4 +1,6 @@
 // The record file: what stands at an offset, a whole file read to its end, rescuing a damaged one, and writing a record.
+#![tactic(auto)]
+
 mod rescuing;
 mod types;
 mod writing;
@@ -50,7 +52,7 @@ fn word_at(bytes: &[u8], k: usize) -> u32
 }
 
 // A cell of a payload, whether it is within the limits, and the place of its coordinate that is not: the first, where both are not.
-#[derive(Drop)]
+#[derive(Clone, Copy)]
 struct CellField {
     cell: Cell,
     sound: bool,
@@ -58,7 +60,7 @@ struct CellField {
 }
 
 // The first three control points of a payload, whether all are within the limits, and the place of the first coordinate that is not.
-#[derive(Drop)]
+#[derive(Clone, Copy)]
 struct ThreeField {
     p0: Cell,
     p1: Cell,
@@ -68,7 +70,7 @@ struct ThreeField {
 }
 
 // A number of a payload, and whether it is within its limits.
-#[derive(Drop)]
+#[derive(Clone, Copy)]
 struct NumberField {
     number: u32,
     sound: bool,

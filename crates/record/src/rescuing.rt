@@ -9,7 +9,7 @@ use crate::{read, word_at};
 use sheet::Refusal;
 
 // Where records that read well one after another end, and the number of what is refused there; 0 at the file's end.
-#[derive(Drop)]
+#[derive(Clone, Copy)]
 struct Run {
     end: usize,
     number: u32,
@@ -57,7 +57,7 @@ fn put(copy: &mut [u8], at: usize, part: &[u8])
     requires { at + length part.now ≤ length copy.old }
     ensures { copy.new ≡ sets copy.old at part.now }
 {
-    bytes::copy(part, &mut copy[at..]);
+    copy[at..at + part.len()].copy_from_slice(part);
 }
 
 // Copies the records that read well, and lists the others.

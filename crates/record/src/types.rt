@@ -2,7 +2,7 @@
 use sheet::{Figure, Refusal};
 
 // A record: its offset, the offset of what follows it, its ink and its figure.
-#[derive(Drop)]
+#[derive(Clone, Copy)]
 pub struct Record {
     pub offset: usize,
     pub next: usize,
@@ -11,7 +11,7 @@ pub struct Record {
 }
 
 // What stands at an offset: a record, the file's end, or a refusal with the offset of the offending field's first byte.
-#[derive(Drop)]
+#[derive(Clone, Copy)]
 pub enum Read {
     Record(Record),
     End,
@@ -19,7 +19,7 @@ pub enum Read {
 }
 
 // What comes of a rescue: how many bytes were copied and how many places of each list filled, or why none was.
-#[derive(Drop)]
+#[derive(Clone, Copy)]
 pub enum Rescue {
     Done(usize, usize),
     Refused(Refusal),
