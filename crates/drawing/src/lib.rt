@@ -1,4 +1,6 @@
 // Any figure, in cells or in metres, and a whole file, onto a sheet.
+#![tactic(auto)]
+
 mod figure;
 mod file;
 mod metres;
