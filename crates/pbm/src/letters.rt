@@ -5,7 +5,7 @@ ghost use Rattle.pbm.specs.Header.{run, past};
 ghost use Rattle.pbm.specs.Inner.{letters_at, Stands, capped};
 
 // A number of a header, 4,097 where it is larger than any side of a sheet, and the place after it.
-#[derive(Drop)]
+#[derive(Clone, Copy)]
 pub(crate) struct Number {
     pub value: u32,
     pub end: usize,

@@ -1,4 +1,6 @@
 // Pictures: a sheet written as raw PBM, and one read onto a sheet of the same size.
+#![tactic(auto)]
+
 ghost use Rattle.std.specs.Prelude.{◌≡◌, ◌+◌, ◌≤◌, length};
 ghost use Rattle.std.proofs.lemmas.List.Edits.{sets};
 ghost use Rattle.sheet.specs.Reply.{told};
@@ -17,7 +19,7 @@ fn put(out: &mut [u8], at: usize, part: &[u8])
     requires { at + length part.now ≤ length out.old }
     ensures { out.new ≡ sets out.old at part.now }
 {
-    bytes::copy(part, &mut out[at..]);
+    out[at..at + part.len()].copy_from_slice(part);
 }
 
 // Writes a sheet as a picture, and replies with the picture's byte count.
