@@ -1,6 +1,7 @@
+mod Answered
 mod Digits
 pub mod Examples
+mod InTurn
 mod Lines
-mod Reading
 mod Told
 mod Writing

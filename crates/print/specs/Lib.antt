@@ -1,1 +1,2 @@
+pub mod Run
 pub mod Text

@@ -12,12 +12,9 @@ fn put(out: &mut [u8], at: usize, part: &[u8]) -> usize
     ensures value { result ≡ at + length part.now }
     ensures out_after { out.new ≡ sets out.old at part.now }
 {
-    let mut i: usize = 0;
-    while i < part.len() {
-        out[at + i] = part[i];
-        i += 1;
-    }
-    at + i
+    let end = at + part.len();
+    out[at..end].copy_from_slice(part);
+    end
 }
 
 // Writes a number in decimal digits, likewise.
