@@ -1,4 +1,6 @@
 // A tally for each row: counting a sheet afresh, and drawing and filling beside a list that is kept right.
+#![tactic(auto)]
+
 mod figure;
 mod list;
 mod row;
