@@ -1,6 +1,8 @@
 // What C and Rust link: the drawings on numbers and slices, with a tally or without, the pen, writing records, rescuing a
 // damaged file, and pictures.
 // Each answers a number of the table; but a pen that is asked answers 1 for a cell and 0 for finished.
+#![tactic(auto)]
+
 ghost use Rattle.std.specs.Prelude.{◌≡◌, ◌-◌, ◌<◌};
 ghost use Rattle.sheet.specs.Reply.{told, told_drawn, value_of, settled};
 ghost use Rattle.pistonwool.specs.Told.{box_numbers};

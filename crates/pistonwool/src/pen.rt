@@ -9,7 +9,7 @@ use line::{Asked, Begun, Pen};
 use sheet::Cell;
 
 // The number of a beginning, and the pen that it leaves.
-#[derive(Drop)]
+#[derive(Clone, Copy)]
 struct Beginning {
     number: u32,
     pen: Pen,

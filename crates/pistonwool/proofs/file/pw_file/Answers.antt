@@ -1,0 +1,8 @@
+-- `pistonwool::file::pw_file` meets its contract.
+use Rattle.pistonwool.proofs.Files.{draws_value}
+use Rattle.pistonwool.proofs.file.pw_file.Goals as goal
+
+pub returns : goal.returns
+returns c =
+    draws_value _ _ _ _ _ _ _ _ _ c.draw_file-drawn.ensures c.number.ensures c.value.ensures
+    c.tell_box.ensures
