@@ -9,7 +9,7 @@ all: library program
 library:
 	./build
 
-# after the library: both prove into target/
+# after the library: both prove the crates below
 program: library
 	./draw examples/district.rec
 
@@ -29,4 +29,4 @@ install: library
 	install -m 644 /dev/stdin "$$root/lib/pkgconfig/pistonwool.pc"
 
 clean:
-	rm -rf target
+	rm -rf target crates/*/out
