@@ -1,12 +1,12 @@
 """The must-fail edits: what each entry calls wrong or altered, what it changes, and whether the prover refused it there.
 
-An edit has entries, each with changes of its own:
+An edit is one entry, and what rt does not read of it is a comment:
 
-    wrong: crate::function: what is wrong          altered: specs/FILE NAME: what is altered
+    # wrong: crate::function: what is wrong        # altered: specs/FILE NAME: what is altered
+    # refused: proofs/function returns-2           # refused: proofs/FILE theorem
     file: src/FILE.rt                              file: specs/FILE.antt
     old: ..                                        old: ..
     new: ..                                        new: ..
-    refused: proofs/function returns-2             refused: proofs/FILE theorem
 
 A place of refusal is a proof and a step of it (`proofs/draw/walk returns`); where the prover made the proof itself, a
 source file, a function and a step (`src/lib is_size returns`, `src/lib Reply::value returns-2`); for a theorem its file and
@@ -97,7 +97,7 @@ def entries(problems):
     for path in sorted((ROOT / "crates").glob("*/must-fail/*.edit")):
         entry, file, old = None, "", ""
         for line in path.read_text().splitlines():
-            key, _, rest = line.partition(": ")
+            key, _, rest = line.removeprefix("# ").partition(": ")
             if key in ("wrong", "altered"):
                 subject, _, words = rest.partition(": ")
                 entry = Entry(key, subject, words, path.parent.parent.name, path.stem)
