@@ -1,16 +1,17 @@
-"""The must-fail edits: what each entry calls wrong or altered, what it changes, and whether the prover refused it there.
+"""The must-fail edits: what each calls wrong or altered, what it changes, and at which fact the prover refused it.
 
-An edit is one entry, and what rt does not read of it is a comment:
+An edit is a file of its own, and what rt does not read of it is a comment:
 
     # wrong: crate::function: what is wrong        # altered: specs/FILE NAME: what is altered
-    # refused: proofs/function returns-2           # refused: proofs/FILE theorem
     file: src/FILE.rt                              file: specs/FILE.antt
     old: ..                                        old: ..
     new: ..                                        new: ..
 
-A place of refusal is a proof and a step of it (`proofs/draw/walk returns`); where the prover made the proof itself, a
-source file, a function and a step (`src/lib is_size returns`, `src/lib Reply::value returns-2`); for a theorem its file and
-its name.
+A line `# refused: ..` is the step at which an older kit refused it, and is not read.
+
+Where it is refused `rt ci` says, and .ci/run keeps that in target/ci.log: one line an edit, with the first fact that fails. That
+is a goal of a function, told by its proof file (`proofs/draw/walk/Answers.antt:7:10: error: `returns`: ..`) or, where the prover
+made the proof itself, by the source (`note: src/draw.rt:12:5: .. (`returns`) ..`), or a lemma (`proofs/Boxes.antt:31:9: ..`).
 """
 import dataclasses
 import functools
@@ -18,8 +19,11 @@ import pathlib
 import re
 
 ROOT = pathlib.Path(__file__).resolve().parent.parent
-# what a log says where a proof does not fit the program at all, so that no fact was tried
-UNFIT = re.compile(r"has no field|that can be named from here|was not admitted|Need-|not in scope")
+LOG = ROOT / "target" / "ci.log"
+REFUSED = ": refused, as it must be: "
+# what is said where a proof does not fit the program at all, so that no fact was tried
+UNFIT = re.compile(r"has no field|has no `|that can be named from here|was not admitted|not in scope")
+PLACE = re.compile(r"(?:note: )?(?:\./)?((?:src|specs|proofs)/\S+?)\.(?:rt|antt):(\d+):\d+: (?:error: )?(.*)")
 
 
 @functools.cache
@@ -57,20 +61,45 @@ def functions(crate):
                 where = str(source.relative_to(ROOT / "crates" / crate))
                 body = "\n".join(lines[number + 1:last])
                 name = kind + head[3]
-                found[name] = Function(f"{crate}::{name}", bool(head[2]), where, range(number + 1, last + 2), body)
+                first = number - lines[number - 1].startswith("#[")
+                found[name] = Function(f"{crate}::{name}", bool(head[2]), where, range(first + 1, last + 2), body)
     return found
 
 
-def own_code(all_functions, name):
+@functools.cache
+def called(crate, name):
+    """the names of the crate's functions that may be what a function calls"""
+    names = {bare(own) for owner, own in re.findall(r"(?:(\w+)::)?\b(\w+)\(", functions(crate)[name].body) if owner not in crates()}
+    return {f for f in functions(crate) if bare(f) in names}
+
+
+def own_code(crate, name):
     """the names of a function and of the private functions that it reaches by calls"""
     reached, ahead = set(), [name]
     while ahead:
         name = ahead.pop()
         reached.add(name)
-        for owner, called in re.findall(r"(?:(\w+)::)?\b(\w+)\(", all_functions[name].body):
-            if owner not in crates():
-                ahead += [f for f in all_functions if bare(f) == called and f not in reached and not all_functions[f].public]
+        ahead += [f for f in called(crate, name) if f not in reached and not functions(crate)[f].public]
     return reached
+
+
+def callers(crate, names):
+    """the names of these functions and of all that reach them by calls"""
+    reached, size = set(names), 0
+    while size < len(reached):
+        size = len(reached)
+        reached |= {f for f in functions(crate) if called(crate, f) & reached}
+    return reached
+
+
+@dataclasses.dataclass
+class Fact:
+    function: str  # name or Type::name; none where it is a lemma's
+    lemma: str  # proofs/FILE
+    goal: str  # of a function, or the lemma
+
+    def __str__(self):
+        return f"`{self.function}` `{self.goal}`" if self.function else f"`{self.goal}` ({self.lemma})"
 
 
 @dataclasses.dataclass
@@ -81,7 +110,7 @@ class Entry:
     crate: str
     label: str
     changes: list = dataclasses.field(default_factory=list)  # (file, old, new)
-    places: list = dataclasses.field(default_factory=list)
+    fact: Fact | None = None
 
     @property
     def edit(self):
@@ -92,27 +121,70 @@ class Entry:
 
 
 def entries(problems):
-    """the entries of every edit"""
+    """what every edit says, and where it was refused"""
     found = []
     for path in sorted((ROOT / "crates").glob("*/must-fail/*.edit")):
         entry, file, old = None, "", ""
         for line in path.read_text().splitlines():
             key, _, rest = line.removeprefix("# ").partition(": ")
             if key in ("wrong", "altered"):
+                if entry:
+                    problems.append(f"{entry}: says two things: `{line}`")
                 subject, _, words = rest.partition(": ")
                 entry = Entry(key, subject, words, path.parent.parent.name, path.stem)
-                found.append(entry)
             elif key == "file":
                 file = rest
-            elif key in ("old", "new", "refused") and entry is None:
-                problems.append(f"{path.relative_to(ROOT)}: `{line}` belongs to no entry")
             elif key == "old":
                 old = rest
-            elif key == "new":
+            elif key == "new" and entry:
                 entry.changes.append((file, old, rest))
-            elif key == "refused":
-                entry.places.append(rest)
+        if entry:
+            found.append(entry)
+        else:
+            problems.append(f"{path.relative_to(ROOT)}: does not say what is wrong")
+    said = log(problems)
+    for name in said.keys() - {e.edit for e in found}:
+        problems.append(f"target/ci.log is of another tree: {name}")
+    for entry in found:
+        check_refused(entry, said.get(entry.edit, ""), problems)
     return found
+
+
+def log(problems):
+    """{crate/label: what rt said of the edit}"""
+    if not LOG.exists():
+        problems.append("there is no target/ci.log: rt ci >target/ci.log")
+        return {}
+    return dict(re.findall(r"^rt: must-fail (\S+)\.edit(: .*)", LOG.read_text(), re.M))
+
+
+def fact(crate, place, number, told):
+    """the fact that is told of a line: after the error's place, and of a source in brackets"""
+    goal = re.match(r"`([^`]+)`: ", told) or re.search(r"\(`([^`]+)`\)", told) or re.search(r"was not checked: ([\w-]+)", told)
+    folder, _, file = place.rpartition("/")
+    if place.startswith("src/"):
+        at = [name for name, f in functions(crate).items() if f.file == f"{place}.rt" and number in f.lines]
+    elif file in ("Answers", "Invariants", "Proof") and folder != "proofs":
+        *_, kind, name = folder.split("/")
+        at = [f for f in (f"{kind}::{name}", name) if f in functions(crate)]
+    else:
+        return goal and Fact("", place, goal[1])
+    return Fact(at[0], "", goal[1]) if at and goal else None
+
+
+def check_refused(entry, said, problems):
+    """the prover refused the entry, and for a fact"""
+    at = PLACE.match(said.removeprefix(REFUSED))
+    if not said:
+        problems.append(f"{entry}: was not tried: target/ci.log has no line of it")
+    elif not said.startswith(REFUSED):
+        problems.append(f"{entry}: is not refused as it should be{said}")
+    elif UNFIT.search(said):
+        problems.append(f"{entry}: is refused for no fact{said}")
+    elif not at or not (found := fact(entry.crate, at[1], int(at[2]), at[3])):
+        problems.append(f"{entry}: is refused at no fact that can be told{said}")
+    else:
+        entry.fact = found
 
 
 def changed_functions(entry, problems):
@@ -129,56 +201,16 @@ def changed_functions(entry, problems):
     return found
 
 
-def refused(entry, log, place):
-    """whether the edit's log refuses a place"""
-    file, *function, step = place.split()
-    for line in log.splitlines():
-        here = re.search(re.escape(f"{entry.edit}/{file}") + r"(?:/Proof)?(?:\.antt|\.rt):(\d+):\d+: ", line)
-        if not here or f"`{step}`" not in line or UNFIT.search(line):
-            continue
-        if function and int(here[1]) not in functions(entry.crate)[function[0]].lines:
-            continue
-        if ": error: " in line or line.startswith("note: "):
-            return True
-    return False
-
-
-def check_refused(entry, problems):
-    """the prover refused the entry at each of its places"""
-    log = ROOT / "target" / "must-fail" / entry.crate / entry.label / ".log"
-    if not log.exists():
-        problems.append(f"{entry}: no log: rt must-fail {entry.crate}")
-        return
-    for place in entry.places:
-        if not refused(entry, log.read_text(), place):
-            problems.append(f"{entry}: not refused at {place}")
-
-
-def fact(entry, place):
-    """the name of the fact at a place: a proof's theorem and a step of it, or a theorem"""
-    file, *function, step = place.split()
-    proof = ROOT / "crates" / entry.crate / file / "Proof.antt"
-    if function:
-        return f"`{function[0]}` `{step}`"
-    if proof.exists():
-        theorem = re.search(r"^pub (\S+_spec) :", proof.read_text(), re.M)[1]
-        return f"`{theorem}` `{step}`"
-    return f"`{step}`"
-
-
 def check(entry, problems):
-    """an entry has a change of its own, in the code or the law that it names, and is refused at each of its places"""
+    """an entry has a change of its own, in the code or the law that it names, and is refused at a fact of what it changes"""
     folder = {"wrong": "src/", "altered": "specs/"}[entry.kind]
     if not entry.changes:
         problems.append(f"{entry}: has no change of its own")
-    if not entry.places:
-        problems.append(f"{entry}: names no fact")
     for file, _, new in entry.changes:
         if not file.startswith(folder):
             problems.append(f"{entry}: changes {file}, which is not in {folder}")
         if "/*" in new or "//" in new:
             problems.append(f"{entry}: comments code out")
-    check_refused(entry, problems)
     if entry.kind == "wrong":
         check_wrong(entry, problems)
     else:
@@ -196,15 +228,13 @@ def check_altered(entry, problems):
 
 
 def check_wrong(entry, problems):
-    """what it changes is the function's own code, and what fails is a fact of what it changes"""
+    """what it changes is the function's own code, and what fails is a fact of what it changes, or of what calls that"""
     all_functions, wrong = functions(entry.crate), entry.subject.partition("::")[2]
     if wrong not in all_functions or all_functions[wrong].name != entry.subject or not all_functions[wrong].public:
         problems.append(f"{entry}: no such public function")
         return
     changed = changed_functions(entry, problems)
-    for name in changed - own_code(all_functions, wrong):
+    for name in changed - own_code(entry.crate, wrong):
         problems.append(f"{entry}: changes {name}, which is no code of {wrong}")
-    for place in entry.places:
-        file, *function, _ = place.split()
-        if not (changed.intersection(function) or file.split("/")[-1] in map(bare, changed)):
-            problems.append(f"{entry}: {place} is no fact of what it changes")
+    if entry.fact and entry.fact.function and entry.fact.function not in callers(entry.crate, changed):
+        problems.append(f"{entry}: {entry.fact} is no fact of what it changes")
