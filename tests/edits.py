@@ -7,8 +7,6 @@ An edit is a file of its own, and what rt does not read of it is a comment:
     old: ..                                        old: ..
     new: ..                                        new: ..
 
-A line `# refused: ..` is the step at which an older kit refused it, and is not read.
-
 Where it is refused `rt ci` says, and .ci/run keeps that in target/ci.log: one line an edit, with the first fact that fails. That
 is a goal of a function, told by its proof file (`proofs/draw/walk/Answers.antt:7:10: error: `returns`: ..`) or, where the prover
 made the proof itself, by the source (`note: src/draw.rt:12:5: .. (`returns`) ..`), or a lemma (`proofs/Boxes.antt:31:9: ..`).
