@@ -228,8 +228,9 @@ def check_altered(entry, problems):
 def check_wrong(entry, problems):
     """what it changes is the function's own code, and what fails is a fact of what it changes, or of what calls that"""
     all_functions, wrong = functions(entry.crate), entry.subject.partition("::")[2]
-    if wrong not in all_functions or all_functions[wrong].name != entry.subject or not all_functions[wrong].public:
-        problems.append(f"{entry}: no such public function")
+    of = all_functions.get(wrong)
+    if of is None or of.name != entry.subject or not (of.public or of.file == "src/main.rt"):
+        problems.append(f"{entry}: no such function that is public or a program's own")
         return
     changed = changed_functions(entry, problems)
     for name in changed - own_code(entry.crate, wrong):

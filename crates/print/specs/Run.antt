@@ -8,7 +8,7 @@ abbrev pub Holds : Option (List ℕ) → Bool → ℕ → List ℕ → Type 0
 Holds None whole count room = ⊤
 Holds (Some xs) whole count room = whole ≡ true → take count room ≡ take (length room) xs
 
--- of known bytes the reply is written to them, and of these a byte more than is drawn tells
+-- of known bytes the reply to all of them is what is added to those known to be written
 abbrev pub Answers : Option (List ℕ) → Option (List ℕ) → Option (List ℕ) → Bool → Type 0
 Answers None old new whole = ⊤
-Answers (Some xs) old new whole = Appends old new (reply_of whole (take 4097 xs))
+Answers (Some xs) old new whole = Appends old new (reply_of whole xs)
