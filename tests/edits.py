@@ -81,15 +81,6 @@ def own_code(crate, name):
     return reached
 
 
-def callers(crate, names):
-    """the names of these functions and of all that reach them by calls"""
-    reached, size = set(names), 0
-    while size < len(reached):
-        size = len(reached)
-        reached |= {f for f in functions(crate) if called(crate, f) & reached}
-    return reached
-
-
 @dataclasses.dataclass
 class Fact:
     function: str  # name or Type::name; none where it is a lemma's
@@ -226,7 +217,7 @@ def check_altered(entry, problems):
 
 
 def check_wrong(entry, problems):
-    """what it changes is the function's own code, and what fails is a fact of what it changes, or of what calls that"""
+    """what it changes is the function's own code, and what fails is a fact of what it changes"""
     all_functions, wrong = functions(entry.crate), entry.subject.partition("::")[2]
     of = all_functions.get(wrong)
     if of is None or of.name != entry.subject or not (of.public or of.file == "src/main.rt"):
@@ -235,5 +226,5 @@ def check_wrong(entry, problems):
     changed = changed_functions(entry, problems)
     for name in changed - own_code(entry.crate, wrong):
         problems.append(f"{entry}: changes {name}, which is no code of {wrong}")
-    if entry.fact and entry.fact.function and entry.fact.function not in callers(entry.crate, changed):
+    if entry.fact and entry.fact.function not in changed:
         problems.append(f"{entry}: {entry.fact} is no fact of what it changes")
