@@ -20,7 +20,7 @@ ROOT = pathlib.Path(__file__).resolve().parent.parent
 LOG = ROOT / "target" / "ci.log"
 REFUSED = ": refused, as it must be: "
 # what is said where a proof does not fit the program at all, so that no fact was tried
-UNFIT = re.compile(r"has no field|has no `|that can be named from here|was not admitted|not in scope")
+UNFIT = re.compile(r"has no field|has no `|that can be named from here|was not admitted|was rejected|was not checked|not in scope")
 PLACE = re.compile(r"(?:note: )?(?:\./)?((?:src|specs|proofs)/\S+?)\.(?:rt|antt):(\d+):\d+: (?:error: )?(.*)")
 
 
@@ -149,7 +149,7 @@ def log(problems):
 
 def fact(crate, place, number, told):
     """the fact that is told of a line: after the error's place, and of a source in brackets"""
-    goal = re.match(r"`([^`]+)`: ", told) or re.search(r"\(`([^`]+)`\)", told) or re.search(r"was not checked: ([\w-]+)", told)
+    goal = re.match(r"`([^`]+)`: ", told) or re.search(r"\(`([^`]+)`\)", told)
     folder, _, file = place.rpartition("/")
     if place.startswith("src/"):
         at = [name for name, f in functions(crate).items() if f.file == f"{place}.rt" and number in f.lines]
