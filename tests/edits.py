@@ -20,7 +20,7 @@ ROOT = pathlib.Path(__file__).resolve().parent.parent
 LOG = ROOT / "target" / "ci.log"
 REFUSED = ": refused, as it must be: "
 # what is said where a proof does not fit the program at all, so that no fact was tried
-UNFIT = re.compile(r"has no field|has no `|that can be named from here|was not admitted|was rejected|was not checked|not in scope")
+UNFIT = re.compile(r"has no field|has no `|: record `|that can be named from here|was not admitted|was rejected|was not checked|not in scope")
 PLACE = re.compile(r"(?:note: )?(?:\./)?((?:src|specs|proofs)/\S+?)\.(?:rt|antt):(\d+):\d+: (?:error: )?(.*)")
 
 
