@@ -198,10 +198,6 @@ pub to_sfits : (w : Width) (z : ℤ) → (up z < 2 ^ hbits w) × (dn z ≤ 2 ^ h
 to_sfits w (pos n) h = record { sfits = h.0 }
 to_sfits w (negsuc n) h = record { sfits = h.1 }
 
--- what a cast from signed to unsigned asks
-pub to_cast : (w : Width) (z : ℤ) → (dn z ≤ up z) × (up z + dn z < 2 ^ bits w) → T (non_neg z) × Fits w (nat_abs z)
-to_cast w z h = (to_non_neg z h.0, record { fits = subst (λ (n : ℕ). n < 2 ^ bits w) (sym (nat_abs_is z)) h.1 })
-
 -- what `omega` and `simp` are handed
 pub ruleset ints = (arith, ltb-true, ltb-false, leb-true, leb-false, eqb-true, eqb-false, ≤ℤ_zero, le_z_zero, lt_z_zero, from_≤ℤ, from_<ℤ, from_≡ℤ, le_z_true, le_z_false, lt_z_true, lt_z_false, to_≤ℤ, to_<ℤ, to_≡ℤ, to_non_neg)
 

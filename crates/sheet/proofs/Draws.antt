@@ -1,6 +1,6 @@
 -- The laws of `Paints` and `Draws`.
 use Prim.Native.Nat.{ℕ}
-use mathlib.Core.Path.{◌≡◌, sym, subst, ap, ◌∙◌}
+use mathlib.Core.Path.{◌≡◌, refl, sym, subst, ap, ◌∙◌}
 use mathlib.Core.List.{List}
 use mathlib.Core.Bool.{Bool, true, false, cond}
 use lib.ListN.{length}
@@ -8,7 +8,7 @@ use Rattle.sheet.specs.Repaint.{nothing}
 use Rattle.sheet.specs.Reply.{Answer, refuse, with_box, is_done, settled}
 use Rattle.sheet.specs.Drawing.{Inked, paint_all, box_all, Drawing, Paints, telling, Draws}
 use Rattle.sheet.specs.declared.Shape.{Shape}
-use Rattle.sheet.specs.declared.Refusal.{Refusal}
+use Rattle.sheet.specs.declared.refusal.Refusal.{Refusal}
 use Rattle.sheet.specs.declared.repaint.Rectangle.{Rectangle}
 use Rattle.sheet.proofs.Unique.{number_not_0, one_value}
 
@@ -43,8 +43,8 @@ module _ (d : Drawing) (s : List ℕ) where
   pub kept : (a b : Answer) → b ≡ with_box a nothing → is_done a ≡ false → d.answer (length s) ≡ a → Draws d s b s
   kept a b f n e = keeps (telling d) s b (ap is_done f ∙ n) (answered a nothing e (ap (λ (t : Bool). cond t (box_all d.shape d.figures) nothing) n) ∙ sym f)
 
-  pub refuses : (r : Refusal) (b : Answer) → b ≡ refuse r → d.answer (length s) ≡ refuse r → Draws d s b s
-  refuses r b f e = kept (refuse r) b f (number_not_0 r) e
+  pub refuses : (r : Refusal) → d.answer (length s) ≡ refuse r → Draws d s (refuse r) s
+  refuses r e = kept (refuse r) (refuse r) refl (number_not_0 r) e
 
   pub draws : (a : Answer) (box : Rectangle) (t : List ℕ) → is_done a ≡ true → d.answer (length s) ≡ a → t ≡ paint_all d.shape d.figures s
       → box ≡ box_all d.shape d.figures → Draws d s (with_box a box) t

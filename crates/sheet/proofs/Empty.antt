@@ -4,7 +4,10 @@ use Prim.Native.Nat.{ℕ}
 use mathlib.Core.Path.{◌≡◌, sym, ap, ◌∙◌}
 use mathlib.Core.Bool.{true, false, true≢false}
 use lib.Dec.{eqb}
-use Rattle.sheet.specs.Reply.{Answer, is_done}
+use native.Mathlib.Omega.{arith}
+use lib.ListN.{length}
+use Rattle.sheet.specs.Reply.{Answer, words, is_done}
+use Rattle.sheet.specs.declared.refusal.Refusal.TheVariants.{Size, Coordinate}
 
 -- a statement answers one input with 0 and refuses another
 pub record Both {I : Type 0} (answer : I → Answer) (i j : I) : Type 0 where
@@ -31,3 +34,7 @@ numbers_differ answer i j both e = true≢false (sym both.done ∙ ap (λ (n : �
 
 pub answers_differ : {I : Type 0} (answer : I → Answer) (i j : I) → Both answer i j → Differ answer i j
 answers_differ answer i j both e = numbers_differ answer i j both (ap (λ (a : Answer). a.number) e)
+
+-- the words of two refusals differ
+pub words_differ : Differ words Size Coordinate
+words_differ e = omega (arith, ap length e)

@@ -9,8 +9,8 @@ use Rattle.sheet.specs.Sheet.{coordinate, within_limits, semi_axis, axes, split,
 use Rattle.laws.proofs.Tests.{halves}
 use Rattle.sheet.specs.Figure.{kind_of, values_of, if_figure, cell_in, number_in}
 use Rattle.sheet.specs.Reply.{Answer, refuse, unless}
-use Rattle.sheet.specs.declared.Refusal.{Refusal}
-use Rattle.sheet.specs.declared.Refusal.TheVariants.{Coordinate, Radius, Pieces}
+use Rattle.sheet.specs.declared.refusal.Refusal.{Refusal}
+use Rattle.sheet.specs.declared.refusal.Refusal.TheVariants.{Coordinate, Radius, Pieces}
 use Rattle.sheet.specs.declared.Figure.{Figure}
 use Rattle.sheet.specs.declared.Figure.TheVariants.{Line, Circle, Ellipse, Curve, Cubic}
 

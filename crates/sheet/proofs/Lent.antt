@@ -2,19 +2,19 @@
 use Prim.Native.Nat.{ℕ}
 use mathlib.Core.Path.{◌≡◌, refl, sym, ap, ◌∙◌}
 use mathlib.Core.List.{List, []}
-use mathlib.Core.Bool.{Bool, true, false, ◌&&◌, not, true≢false}
+use mathlib.Core.Bool.{Bool, true, false, ◌&&◌, true≢false}
 use lib.IntN.{ℤ}
 use lib.ListN.{length}
-use Rattle.laws.proofs.Tests.{no, yes}
+use Rattle.std.specs.Prelude.{Result, Ok, Err, is_err, IsErrAnd}
 use Rattle.sheet.specs.Sheet.{sized, sliced}
-use Rattle.sheet.specs.Repaint.{nothing}
-use Rattle.sheet.specs.Reply.{Answer, done, refuse, with_box, is_done, unless}
+use Rattle.sheet.specs.Reply.{Answer, done, refuse, told, test_answer, drawn_answer, is_done, unless}
 use Rattle.sheet.specs.Drawing.{if_sheet, Drawing, Draws}
 use Rattle.sheet.specs.Inner.{fits}
+use Rattle.sheet.specs.declared.Drawn.{Drawn}
 use Rattle.sheet.specs.declared.Shape.{Shape}
-use Rattle.sheet.specs.declared.Refusal.{Refusal}
-use Rattle.sheet.specs.declared.Refusal.TheVariants.{Size, Slice}
-use Rattle.sheet.proofs.Draws.{kept}
+use Rattle.sheet.specs.declared.refusal.Refusal.{Refusal}
+use Rattle.sheet.specs.declared.refusal.Refusal.TheVariants.{Size, Slice}
+use Rattle.sheet.proofs.Draws.{refuses}
 use Rattle.sheet.proofs.Unique.{number_not_0}
 
 -- two tests in turn, before an answer
@@ -80,21 +80,35 @@ module _ (k : Shape) (n : ℕ) where
   unfolding if_sheet
   sheet_done v w = done_alike (sized k) (sliced k n) v w
 
-  -- what `check` told, and what `is_done` answered of it: after `if !tested.is_done()`, taken and left
-  module _ (a : Answer) (r : Bool) (tested : a ≡ if_sheet k n (done [])) (asked : r ≡ is_done a) where
-    pub no_sheet : not r ≡ true → (next : Answer) → if_sheet k n next ≡ a
-    unfolding if_sheet
-    no_sheet e next = refused_after (sized k) (sliced k n) next (ap is_done (sym tested) ∙ no _ _ asked e) ∙ sym tested
+  -- what a test of the sheet that was answered with a refusal, and with none, has shown
+  pub no_sheet : (r : Refusal) → told test_answer (Err r) ≡ if_sheet k n (done []) → (next : Answer) → if_sheet k n next ≡ refuse r
+  unfolding if_sheet
+  no_sheet r e next = refused_after (sized k) (sliced k n) next (ap is_done (sym e) ∙ number_not_0 r) ∙ sym e
 
-    pub is_sheet : not r ≡ false → fits k n ≡ true
-    unfolding if_sheet fits
-    is_sheet e = done_after (sized k) (sliced k n) (ap is_done (sym tested) ∙ yes _ _ asked e)
+  pub is_no_sheet : (r : Refusal) → told test_answer (Err r) ≡ if_sheet k n (done []) → fits k n ≡ false
+  unfolding if_sheet fits
+  is_no_sheet r e = not_after (sized k) (sliced k n) (ap is_done (sym e) ∙ number_not_0 r)
 
-    pub is_no_sheet : not r ≡ true → fits k n ≡ false
-    unfolding if_sheet fits
-    is_no_sheet e = not_after (sized k) (sliced k n) (ap is_done (sym tested) ∙ no _ _ asked e)
+  pub is_sheet : told test_answer (Ok tt) ≡ if_sheet k n (done []) → fits k n ≡ true
+  unfolding if_sheet fits
+  is_sheet e = done_after (sized k) (sliced k n) (ap is_done (sym e))
+
+  -- the same of a test that is asked with `is_err`
+  pub passed_sheet : (reply : Result (Unit {0}) Refusal) → told test_answer reply ≡ if_sheet k n (done []) → false ≡ is_err reply → fits k n ≡ true
+  passed_sheet (Ok _) e h = is_sheet e
+  passed_sheet (Err r) e h = absurd (true≢false (sym h))
+
+  pub failed_sheet : (reply : Result (Unit {0}) Refusal) → told test_answer reply ≡ if_sheet k n (done []) → true ≡ is_err reply → fits k n ≡ false
+  failed_sheet (Ok _) e h = absurd (true≢false h)
+  failed_sheet (Err r) e h = is_no_sheet r e
+
+-- what is told where `?` passes a refusal on
+pub told_err : {A : Type 0} (answer : A → Answer) (reply : Result A Refusal) (r : Refusal) → IsErrAnd reply (λ q. q ≡ r) → told answer reply ≡ refuse r
+told_err answer (Ok a) r h = absurd h
+told_err answer (Err q) r h = ap refuse h
 
 -- a drawing that is refused for its sheet
-pub sheet_refused : (d : Drawing) (k : Shape) (s : List ℕ) (a b : Answer) (r : Bool) (next : Answer) → d.answer (length s) ≡ if_sheet k (length s) next
-    → a ≡ if_sheet k (length s) (done []) → r ≡ is_done a → not r ≡ true → b ≡ with_box a nothing → Draws d s b s
-sheet_refused d k s a b r next is tested asked e f = kept d s a b f (no r (is_done a) asked e) (is ∙ no_sheet k (length s) a r tested asked e next)
+pub sheet_refused : (d : Drawing) (k : Shape) (s : List ℕ) (reply : Result Drawn Refusal) (r : Refusal) (next : Answer) → d.answer (length s) ≡ if_sheet k (length s) next
+    → told test_answer (Err r) ≡ if_sheet k (length s) (done []) → IsErrAnd reply (λ q. q ≡ r) → Draws d s (told drawn_answer reply) s
+sheet_refused d k s reply r next is e h =
+    rw (told_err drawn_answer reply r h) (refuses d s r (is ∙ no_sheet k (length s) r e next))

@@ -1,22 +1,19 @@
 -- The limits, as the code meets them: a slice that fits, a coordinate on the moved plane.
-use Prim.Native.Nat.{ℕ, zero, suc, ◌+◌, ◌-◌, ◌*◌, ◌≤◌, ◌<◌}
+use Prim.Native.Nat.{ℕ, ◌+◌, ◌-◌, ◌*◌, ◌≤◌, ◌<◌}
 use mathlib.Core.Path.{◌≡◌, refl, subst, ap, ◌∙◌}
 use mathlib.Core.List.{List}
-use mathlib.Core.Bool.{Bool, true, false, not, beq, ◌&&◌, ◌||◌}
+use mathlib.Core.Bool.{true, false, ◌&&◌}
 use native.Mathlib.Omega.{arith}
-use native.Mathlib.Nat.{mul-le-mul, mul-le-mul_right, mul_comm}
+use native.Mathlib.Nat.{mul-le-mul}
 use borrow.Author.Tests.{le-leb, eq-eqb}
 use lib.ListN.{length}
-use lib.Dec.{T, leb, eqb, leb→le, eqb→eq, eqb-suc-zero}
+use lib.Dec.{T, eqb, leb→le, eqb→eq}
 use lib.IntN.{ℤ, pos, negsuc}
 use lib.Signed.{le_z}
-use mir.Syntax.{w32}
-use mir.Val.{SFits, to_z, of_z}
-use mir.Facts.{to_z-of_z}
 use Rattle.laws.proofs.Parts.{up, dn}
 use Rattle.laws.proofs.Ints.{le_parts, one_zero, parts, to_≡ℤ, is_le_z, no_le_z}
 use Rattle.laws.proofs.Tests.{and_l, and_r, from_true, halves}
-use Rattle.sheet.specs.Sheet.{size, pitched, sized, bytes, sliced, coordinate, within_limits, semi_axis, axes, cell_of}
+use Rattle.sheet.specs.Sheet.{size, pitched, sized, bytes, sliced, coordinate, within_limits, cell_of}
 use Rattle.sheet.specs.Inner.{moved, unmoved, moved_cell, unmoved_cell, lowered, lowered_cell, Moved, fits, Sheet, Disjoint}
 use Rattle.sheet.specs.declared.Cell.{Cell}
 use Rattle.sheet.specs.declared.Shape.{Shape}
@@ -28,10 +25,7 @@ sized_parts k e =
     let t : T (size k.width && size k.height && pitched k.width k.pitch) = from_true (sized k) e in
     (search (leb→le, and_l, and_r), search (leb→le, and_l, and_r), search (leb→le, and_l, and_r), search (leb→le, and_l, and_r))
 
--- no sheet has more than 8,192 × 4,096 bytes, nor 4,096 × 4,096 cells
-pub bytes_most : (k : Shape) → sized k ≡ true → bytes k ≤ 33554432
-bytes_most k e = let p = sized_parts k e in mul-le-mul {n₁ = k.pitch} {m₁ = k.height} {n₂ = 8192} {m₂ = 4096} p.3 p.1
-
+-- no sheet has more than 4,096 × 4,096 cells
 pub sides_most : (k : Shape) → sized k ≡ true → k.width * k.height ≤ 16777216
 sides_most k e = let p = sized_parts k e in mul-le-mul {n₁ = k.width} {m₁ = k.height} {n₂ = 4096} {m₂ = 4096} p.0 p.1
 
@@ -73,10 +67,6 @@ sheet_fits k s z =
 pub still_sheet : (k : Shape) (s t : List ℕ) → length t ≡ length s → Sheet k s → Sheet k t
 still_sheet k s t e z = fits_sheet k t (ap (fits k) e ∙ sheet_fits k s z)
 
--- a row of the sheet ends within it
-pub row_ends : {k : Shape} {s : List ℕ} → Sheet k s → (y : ℕ) → y < k.height → y * k.pitch + k.pitch ≤ length s
-row_ends {k} S y l = omega (arith, S.area, mul-le-mul_right k.pitch l, mul_comm k.pitch k.height)
-
 -- and begins below 2^25
 pub row_small : {k : Shape} {s : List ℕ} → Sheet k s → (y : ℕ) → y < k.height → y * k.pitch ≤ 33554432
 row_small {k} S y l = mul-le-mul {n₁ = y} {m₁ = k.pitch} {n₂ = 4096} {m₂ = 8192} (omega (arith, S.high)) S.far
@@ -110,10 +100,6 @@ limit_above z l = simp (is_le_z (negsuc 16383) z (omega (arith, one_zero z)), no
 -- what a moved number stands for, by its parts
 pub stands_parts : (m : ℕ) (z : ℤ) → unmoved m ≡ z → up z + 65536 ≡ dn z + m
 stands_parts m z e = subst (λ (w : ℤ). up w + 65536 ≡ dn w + m) e (simp parts (omega arith))
-
--- what the machine reads back from the bits of a coordinate
-pub moved_back : (z : ℤ) (m : ℕ) → SFits w32 z → m ≡ moved (to_z w32 (of_z w32 z)) → m ≡ moved z
-moved_back z m f e = e ∙ ap moved (to_z-of_z f)
 
 -- what a moved coordinate is
 pub moved_is : (z : ℤ) → coordinate z ≡ true → moved z ≡ up z + 65536 - dn z
@@ -178,14 +164,6 @@ pub lowered_is : (m : ℕ) → 49152 ≤ m → m ≤ 81919 → lowered m ≡ unm
 unfolding lowered
 lowered_is m l h = simp (moved_in m (record { least = l; most = h }))
 
-pub lowered_below : (m : ℕ) → m < 49152 → pos 0 ≡ lowered m
-unfolding lowered
-lowered_below m l = let e : coordinate (unmoved m) ≡ false = limit_below (unmoved m) (simp parts (omega arith)) in simp e
-
-pub lowered_above : (m : ℕ) → 81919 < m → pos 0 ≡ lowered m
-unfolding lowered
-lowered_above m l = let e : coordinate (unmoved m) ≡ false = limit_above (unmoved m) (simp parts (omega arith)) in simp e
-
 -- what a spot within the limits is lowered to
 lowered_in : (m : ℕ) (z : ℤ) → unmoved m ≡ z → coordinate z ≡ true → lowered m ≡ z
 unfolding lowered
@@ -205,22 +183,3 @@ lowered-moved z e =
     let f = moved_is z e in
     let k = lift_in z (moved z) e refl in
     lowered_is (moved z) k.inside.least k.inside.most ∙ k.stands
-
--- two semi-axes are within their limits where neither is above 16,383 and the one is 0 exactly where the other is
-zero_not : (n : ℕ) → eqb n 0 ≡ not (leb 1 n)
-zero_not zero = refl
-zero_not (suc n) = simp (eqb-suc-zero, le-leb 1 (suc n) (omega arith))
-
-both_or_neither : (a b p q : Bool) → ((a && b) && beq (not p) (not q)) ≡ ((a && (p || not q)) && (b && (q || not p)))
-both_or_neither false b p q = refl
-both_or_neither true false true q = refl
-both_or_neither true false false true = refl
-both_or_neither true false false false = refl
-both_or_neither true true true true = refl
-both_or_neither true true true false = refl
-both_or_neither true true false true = refl
-both_or_neither true true false false = refl
-
-pub axes_are : (a b : ℕ) → ((leb a 16383 && leb b 16383) && beq (eqb a 0) (eqb b 0)) ≡ axes a b
-unfolding semi_axis
-axes_are a b = simp (zero_not a, zero_not b) (both_or_neither (leb a 16383) (leb b 16383) (leb 1 a) (leb 1 b))

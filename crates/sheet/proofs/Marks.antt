@@ -1,10 +1,9 @@
 -- One cell of the moved plane: the byte that it is, and that it is none off the sheet.
 use Prim.Native.Nat.{ℕ, ◌+◌, ◌-◌, ◌*◌, ◌≤◌, ◌<◌}
-use mathlib.Core.Path.{◌≡◌, refl, sym, subst, ap, ◌∙◌}
+use mathlib.Core.Path.{◌≡◌, refl, sym, ap, ◌∙◌}
 use mathlib.Core.List.{List}
 use mathlib.Core.Bool.{Bool, true, false, cond, true≢false}
 use native.Mathlib.Omega.{arith}
-use native.Mathlib.Nat.{mul-le-mul}
 use lib.ListN.{set}
 use lib.Dec.{T}
 use lib.IntN.{pos, nat_abs}
@@ -32,25 +31,10 @@ spot→ p i j t =
 
 module _ (k : Shape) (p : Spot) where
   -- off the sheet, and on it
-  spot_off : ((i j : ℕ) → i < k.width → j < k.height → i + 65536 ≡ p.x → j + 65536 ≡ p.y → ⊥) → on_sheet k (unmoved_cell p) ≡ false
-  spot_off f =
-      is_false _ (λ t.
-      let o = sheet_cell k (unmoved_cell p) (is_true _ t) in
-      let e = spot→ p o.column o.row (subst (λ (c : Cell). T (is_cell (unmoved_cell p) c)) o.is_cell (is_cell_refl (unmoved_cell p))) in
-      f o.column o.row o.in_width o.in_height e.0 e.1)
-
   pub spot_on : 65536 ≤ p.x → 65536 ≤ p.y → p.x - 65536 < k.width → p.y - 65536 < k.height → on_sheet k (unmoved_cell p) ≡ true
   spot_on a b c d = ap (on_sheet k) (unmoved_cell_lem p a b) ∙ on_sheet_lem k (p.x - 65536) (p.y - 65536) c d
 
   -- off the sheet nothing changes
-  pub mark_off : (ink : ℕ) (s : List ℕ) → ((i j : ℕ) → i < k.width → j < k.height → i + 65536 ≡ p.x → j + 65536 ≡ p.y → ⊥) → s ≡ inked_at k ink (unmoved_cell p) s
-  unfolding inked_at
-  mark_off ink s f = simp (spot_off f)
-
-  pub join_off : (r : Rectangle) → ((i j : ℕ) → i < k.width → j < k.height → i + 65536 ≡ p.x → j + 65536 ≡ p.y → ⊥) → r ≡ joined_at k (unmoved_cell p) r
-  unfolding joined_at
-  join_off r f = simp (spot_off f)
-
   -- on it one byte does, and the rectangle has the cell in it
   pub mark_on : (ink : ℕ) (s : List ℕ) → 65536 ≤ p.x → 65536 ≤ p.y → p.x - 65536 < k.width → p.y - 65536 < k.height
       → set s ((p.y - 65536) * k.pitch + (p.x - 65536)) ink ≡ inked_at k ink (unmoved_cell p) s
@@ -59,14 +43,6 @@ module _ (k : Shape) (p : Spot) where
       sym
       (ap (λ (t : Bool). cond t (set s (place k (unmoved_cell p)) ink) s) (spot_on a b c d)
       ∙ ap (λ (d : Cell). set s (place k d) ink) (unmoved_cell_lem p a b))
-
-  pub join_on : (r : Rectangle) → 65536 ≤ p.x → 65536 ≤ p.y → p.x - 65536 < k.width → p.y - 65536 < k.height
-      → join r (alone (p.x - 65536) (p.y - 65536)) ≡ joined_at k (unmoved_cell p) r
-  unfolding joined_at
-  join_on r a b c d =
-      sym
-      (ap (λ (t : Bool). cond t (join r (alone (nat_abs (unmoved_cell p).x) (nat_abs (unmoved_cell p).y))) r) (spot_on a b c d)
-      ∙ ap (λ (d : Cell). join r (alone (nat_abs d.x) (nat_abs d.y))) (unmoved_cell_lem p a b))
 
 -- On a sheet that is painting the cell.
 pub inked_paints : (k : Shape) (ink : ℕ) (c : Cell) (s : List ℕ) → Disjoint k → inked_at k ink c s ≡ paint k ink (is_cell c) s
@@ -111,7 +87,3 @@ joined_box k c r w h l = by (on_sheet k c) refl
 pub alone_box : (k : Shape) (c : Cell) (q r : Rectangle) → k.width ≤ 4096 → k.height ≤ 4096 → q ≡ nothing → r ≡ joined_at k c q → r ≡ box_of k (is_cell c)
 alone_box k c q r w h e f =
     f ∙ ap (joined_at k c) e ∙ joined_box k c nothing w h nothing_low ∙ nothing_join (box_of k (is_cell c)) (box_low k (is_cell c))
-
--- a byte's place within 64 bits
-pub place_small : (row pitch column : ℕ) → row ≤ 4294967294 → pitch ≤ 4294967295 → column ≤ 4294967295 → row * pitch + column < 18446744073709551616
-place_small row pitch column a b c = omega (arith, mul-le-mul {n₁ = row} {m₁ = pitch} {n₂ = 4294967294} {m₂ = 4294967295} a b)

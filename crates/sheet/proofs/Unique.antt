@@ -3,7 +3,7 @@ use Prim.Native.Nat.{ℕ}
 use mathlib.Core.Path.{◌≡◌, refl, sym, ap, ◌∙◌}
 use mathlib.Core.List.{List, [], ◌∷◌, map}
 use mathlib.Core.Logic.{inl, inr}
-use mathlib.Core.Bool.{Bool, true, false, cond}
+use mathlib.Core.Bool.{Bool, true, false, cond, true≢false}
 use native.Mathlib.Omega.{arith}
 use borrow.Author.Tests.{eqb-true}
 use denote.Enum.Declared.{Choice}
@@ -11,14 +11,13 @@ use denote.Struct.Field.{Field}
 use lib.Dec.{eqb}
 use lib.ListN.{length}
 use lib.IntN.{ℤ, nat_abs}
-use Rattle.sheet.specs.Repaint.{nothing}
-use Rattle.sheet.specs.Reply.{Answer, number, told, with_box, told_drawn, is_done}
+use Rattle.std.specs.Prelude.{Option, unwrap_or, Some, None, Result, Ok, Err}
+use Rattle.sheet.specs.Reply.{Answer, number, done, refuse, told, told_file, told_next, test_answer, count_answer, count_values, drawn_answer, is_done}
 use Rattle.sheet.specs.declared.Drawn.{Drawn}
-use Rattle.sheet.specs.declared.Refusal.{Refusal}
-use Rattle.sheet.specs.declared.Refusal.TheVariants.{Size, Coordinate, Radius, Pieces, Room, Survey, NoCell, Short, Kind, Length, Full, Buffer, Header, Pixels, Slice, Kindless, Work, Start, Places, Tally}
-use Rattle.sheet.specs.declared.Reply.{Reply}
-use Rattle.sheet.specs.declared.Reply.TheVariants.{Done, Counted, Refused, RefusedAt}
-use Rattle.sheet.specs.contracts.Refusal.{the_parts as parts, the_make as make}
+use Rattle.sheet.specs.declared.refusal.Refusal.{Refusal}
+use Rattle.sheet.specs.declared.refusal.Refusal.TheVariants.{Size, Coordinate, Radius, Pieces, Room, Survey, NoCell, Short, Kind, Length, Full, Buffer, Header, Pixels, Slice, Kindless, Work, Start, Places, Tally}
+use Rattle.sheet.specs.declared.refusal.FileRefusal.{FileRefusal}
+use Rattle.sheet.specs.contracts.refusal.Refusal.{the_parts as parts, the_make as make}
 
 -- the first case of an enum without fields that passes a test
 first : (cases : List (List Field)) → (Choice cases → Bool) → List (Choice cases)
@@ -80,41 +79,61 @@ refusal-number r = ap head_of (number_finds r)
 pub number_one : (r q : Refusal) → number r ≡ number q → r ≡ q
 number_one r q e = sym (refusal-number r) ∙ ap refusal e ∙ refusal-number q
 
--- the reply that an answer tells
-done_of : List ℤ → Reply
-done_of [] = Done
-done_of (n ∷ ns) = Counted (nat_abs n)
+-- the first value, where there is one
+head_value : List ℤ → Option ℕ
+head_value [] = None
+head_value (v ∷ vs) = Some (nat_abs v)
 
-refused_of : Refusal → List ℤ → Reply
-refused_of r [] = Refused r
-refused_of r (n ∷ ns) = RefusedAt r (nat_abs n)
+first_value : List ℤ → ℕ
+first_value vs = unwrap_or (head_value vs) 0
 
-reply_of : Answer → Reply
-reply_of a = cond (is_done a) (done_of a.values) (refused_of (refusal a.number) a.values)
+-- two replies told alike are equal, where what is told of a value is 0 and one-to-one
+module _ {A : Type 0} (answer : A → Answer) (zero : (a : A) → is_done (answer a) ≡ true) (one : (a b : A) → answer a ≡ answer b → a ≡ b) where
+  apart : (a : A) (r : Answer) → is_done r ≡ false → answer a ≡ r → ⊥
+  apart a r n e = true≢false (sym (zero a) ∙ ap is_done e ∙ n)
 
-reply_of_lem : (r : Reply) → reply_of (told r) ≡ r
-unfolding reply_of done_of refused_of
-reply_of_lem Done = refl
-reply_of_lem (Counted n) = refl
-reply_of_lem (Refused r) = simp (number_not_0 r, refusal-number r)
-reply_of_lem (RefusedAt r at) = simp (number_not_0 r, refusal-number r)
+  pub told_one : (r q : Result A Refusal) → told answer r ≡ told answer q → r ≡ q
+  told_one (Ok a) (Ok b) e = ap Ok (one a b e)
+  told_one (Ok a) (Err q) e = absurd (apart a (refuse q) (number_not_0 q) e)
+  told_one (Err r) (Ok b) e = absurd (apart b (refuse r) (number_not_0 r) (sym e))
+  told_one (Err r) (Err q) e = ap Err (number_one r q (ap (λ (a : Answer). a.number) e))
 
--- two replies told alike are equal
-pub told_one : (r q : Reply) → told r ≡ told q → r ≡ q
-told_one r q e = sym (reply_of_lem r) ∙ ap reply_of e ∙ reply_of_lem q
+  pub told_file_one : (r q : Result A FileRefusal) → told_file answer r ≡ told_file answer q → r ≡ q
+  unfolding first_value head_value
+  told_file_one (Ok a) (Ok b) e = ap Ok (one a b e)
+  told_file_one (Ok a) (Err g) e = absurd (apart a _ (number_not_0 g.refusal) e)
+  told_file_one (Err f) (Ok b) e = absurd (apart b _ (number_not_0 f.refusal) (sym e))
+  told_file_one (Err f) (Err g) e =
+      let refusals = number_one f.refusal g.refusal (ap (λ (a : Answer). a.number) e) in
+      let offsets : f.offset ≡ g.offset = ap (λ (a : Answer). first_value a.values) e in
+      λ i. Err (record { refusal = refusals i; offset = offsets i })
 
--- and so are two drawings: a reply tells no rectangle of its own
-told_plain : (r : Reply) → with_box (told r) nothing ≡ told r
-told_plain Done = refl
-told_plain (Counted n) = refl
-told_plain (Refused r) = refl
-told_plain (RefusedAt r at) = refl
+-- so are two of an asking, where no value is told as "finished" is
+pub told_next_one : {A : Type 0} (answer : A → Answer) → ((a : A) → answer a ≡ done [] → ⊥) → ((a b : A) → answer a ≡ answer b → a ≡ b)
+    → (r q : Option A) → told_next answer r ≡ told_next answer q → r ≡ q
+told_next_one answer some one (Some a) (Some b) e = ap Some (one a b e)
+told_next_one answer some one (Some a) None e = absurd (some a e)
+told_next_one answer some one None (Some b) e = absurd (some b (sym e))
+told_next_one answer some one None None e = refl
 
-pub drawn_one : (d e : Drawn) → told_drawn d ≡ told_drawn e → d ≡ e
+-- what is told of each kind of value is so
+pub test_one : (a b : Unit {0}) → test_answer a ≡ test_answer b → a ≡ b
+test_one a b e = refl
+
+pub count_one : (m n : ℕ) → count_answer m ≡ count_answer n → m ≡ n
+unfolding first_value head_value
+count_one m n e = ap (λ (a : Answer). first_value a.values) e
+
+head_value-count : (c : Option ℕ) → head_value (count_values c) ≡ c
+unfolding head_value
+head_value-count (Some n) = refl
+head_value-count None = refl
+
+pub drawn_one : (d e : Drawn) → drawn_answer d ≡ drawn_answer e → d ≡ e
 drawn_one d e p =
-    let replies = told_one d.reply e.reply (sym (told_plain d.reply) ∙ ap (λ (a : Answer). with_box a nothing) p ∙ told_plain e.reply) in
+    let counts : d.count ≡ e.count = sym (head_value-count d.count) ∙ ap (λ (a : Answer). head_value a.values) p ∙ head_value-count e.count in
     let boxes : d.rectangle ≡ e.rectangle = ap (λ (a : Answer). a.box) p in
-    λ i. record { reply = replies i; rectangle = boxes i }
+    λ i. record { count = counts i; rectangle = boxes i }
 
 -- Two values that meet one equation are equal; so are two replies of one answer, where telling is one-to-one. These serve every public function.
 pub one_value : {A : Type 0} (v w a : A) → v ≡ a → w ≡ a → v ≡ w

@@ -5,7 +5,7 @@ use Rattle.sheet.specs.Repaint.{nothing, join, box_of}
 use Rattle.sheet.specs.Reply.{Answer, done, with_box, unless, settled}
 use Rattle.sheet.specs.declared.Cell.{Cell}
 use Rattle.sheet.specs.declared.Shape.{Shape}
-use Rattle.sheet.specs.declared.Refusal.TheVariants.{Size, Coordinate, Slice}
+use Rattle.sheet.specs.declared.refusal.Refusal.TheVariants.{Size, Coordinate, Slice}
 use Rattle.sheet.specs.declared.repaint.Rectangle.{Rectangle}
 
 -- a figure in an ink

@@ -2,7 +2,7 @@
 use Rattle.std.specs.Prelude.{ℕ, ◌+◌, List, [], ◌∷◌, ◌++◌, ◌&&◌, ℤ, pos, nat_abs, get_or}
 use Rattle.sheet.specs.Sheet.{cell, within_limits, axes, split}
 use Rattle.sheet.specs.Reply.{Answer, unless}
-use Rattle.sheet.specs.declared.Refusal.TheVariants.{Coordinate, Radius, Pieces}
+use Rattle.sheet.specs.declared.refusal.Refusal.TheVariants.{Coordinate, Radius, Pieces}
 use Rattle.sheet.specs.declared.Cell.{Cell}
 use Rattle.sheet.specs.declared.Figure.{Figure}
 use Rattle.sheet.specs.declared.Figure.TheVariants.{Line, Circle, Ellipse, Curve, Cubic}

@@ -6,3 +6,4 @@ pub mod Drawing
 pub mod Pitch
 pub mod Figure
 pub mod Inner
+pub mod Lent

@@ -2,253 +2,136 @@
 #![tactic(auto)]
 
 ghost use Rattle.std.specs.Prelude.{◌≡◌, []};
-ghost use Rattle.sheet.specs.Sheet.{size, pitched, coordinate, within_limits, semi_axis, axes, split};
-ghost use Rattle.sheet.specs.Repaint.{nothing};
-ghost use Rattle.sheet.specs.Reply.{number, done, told, with_box, told_drawn, is_done, value_of};
+ghost use Rattle.sheet.specs.Sheet.{sized, coordinate, within_limits, semi_axis, axes, split};
+ghost use Rattle.sheet.specs.Reply.{done, told, test_answer, drawn_answer};
 ghost use Rattle.sheet.specs.Drawing.{if_sheet, Draws, mark_drawing};
+ghost use Rattle.sheet.specs.Inner as inner;
 ghost use Rattle.sheet.specs.Inner.{moved, lowered, moved_cell, unmoved_cell, lowered_cell, inked_at};
 
+mod refusal;
 mod repaint;
 
+pub use refusal::{FileRefusal, Refusal};
 pub use repaint::{Rectangle, join_at};
 
-// A cell of the unlimited grid. A pen that C lends holds two, so it has C's layout.
+/// A cell of the unlimited grid. A pen that C lends holds two, so it has C's layout.
 #[repr(C)]
-#[derive(Clone, Copy)]
+#[derive(Clone, Copy, Debug, PartialEq, Eq, Hash)]
 pub struct Cell {
     pub x: i32,
     pub y: i32,
 }
 
-// A cell of the moved plane, on which the code works.
-#[derive(Clone, Copy)]
+/// A cell of the moved plane, on which the code works.
+#[derive(Clone, Copy, Debug, PartialEq, Eq, Hash)]
 pub struct Spot {
     pub x: u32,
     pub y: u32,
 }
 
-// A figure, with its fields in the order of its record.
-#[derive(Clone, Copy)]
+/// A figure, with its fields in the order of its record.
+#[derive(Clone, Copy, Debug, PartialEq, Eq, Hash)]
 pub enum Figure {
-    // the two ends
+    /// the two ends
     Line(Cell, Cell),
-    // the centre and r
+    /// the centre and r
     Circle(Cell, u32),
-    // the centre, a and b
+    /// the centre, a and b
     Ellipse(Cell, u32, u32),
-    // P0, P1, P2 and s
+    /// P0, P1, P2 and s
     Curve(Cell, Cell, Cell, u32),
-    // P0, P1, P2, P3 and s
+    /// P0, P1, P2, P3 and s
     Cubic(Cell, Cell, Cell, Cell, u32),
 }
 
-// The size of a sheet, and its pitch: how many bytes after a cell the one below it stands.
-#[derive(Clone, Copy)]
+/// The size of a sheet, and its pitch: how many bytes after a cell the one below it stands.
+#[derive(Clone, Copy, Debug, PartialEq, Eq, Hash)]
 pub struct Shape {
     pub width: u32,
     pub height: u32,
     pub pitch: u32,
 }
 
-// Why an input is refused: one case for each number of the table.
-#[derive(Clone, Copy)]
-pub enum Refusal {
-    // 1: a sheet size or pitch is outside its limits.
-    Size,
-    // 2: a coordinate is outside its limits; a curve has those of its control points.
-    Coordinate,
-    // 3: a radius or semi-axis is outside its limits.
-    Radius,
-    // 4: s is above 6.
-    Pieces,
-    // 5: either lent list has fewer places than the line has cells.
-    Room,
-    // 6: a survey's origin is not finite, or its cell size is not finite or not above zero.
-    Survey,
-    // 7: a position or length in metres has no cell within the limits.
-    NoCell,
-    // 8: bytes are left, but fewer than a record needs.
-    Short,
-    // 9: unknown record kind.
-    Kind,
-    // 10: record length not the length of its kind.
-    Length,
-    // 11: the free bytes of a buffer are fewer than the record takes.
-    Full,
-    // 12: a buffer has fewer bytes than the picture takes.
-    Buffer,
-    // 13: a picture's header breaks the rules of raw PBM, or names another size than the sheet's.
-    Header,
-    // 14: a picture has fewer bytes after its header than its rows take.
-    Pixels,
-    // 15: the slice length differs from pitch × height.
-    Slice,
-    // 16: record length under 2, so that it has no kind.
-    Kindless,
-    // 17: the work slice has fewer than width × height places.
-    Work,
-    // 18: the start of a fill is off the sheet.
-    Start,
-    // 19: a tally has not one place for each row.
-    Places,
-    // 20: a tally is wrong.
-    Tally,
+/// A sheet that is lent to be drawn on: of its shape, with as many bytes as that has.
+#[derive(Drop)]
+pub struct Sheet<'a> {
+    pub cells: &'a mut [u8],
+    pub shape: Shape,
+    ghost fits: { inner.Sheet shape cells.now },
 }
 
-impl Refusal {
-    // The refusal's number in the table.
-    pub fn number(self) -> u32
-        ensures { result ≡ number self }
-    {
-        match self {
-            Refusal::Size => 1,
-            Refusal::Coordinate => 2,
-            Refusal::Radius => 3,
-            Refusal::Pieces => 4,
-            Refusal::Room => 5,
-            Refusal::Survey => 6,
-            Refusal::NoCell => 7,
-            Refusal::Short => 8,
-            Refusal::Kind => 9,
-            Refusal::Length => 10,
-            Refusal::Full => 11,
-            Refusal::Buffer => 12,
-            Refusal::Header => 13,
-            Refusal::Pixels => 14,
-            Refusal::Slice => 15,
-            Refusal::Kindless => 16,
-            Refusal::Work => 17,
-            Refusal::Start => 18,
-            Refusal::Places => 19,
-            Refusal::Tally => 20,
-        }
-    }
-}
-
-// The reply of a drawing, of a listing and of a file.
-#[derive(Clone, Copy)]
-pub enum Reply {
-    Done,
-    // how many: a line's or a territory's cells on the sheet, those listed, a file's records, a picture's bytes
-    Counted(usize),
-    Refused(Refusal),
-    // and the offset in a file of the field that it names
-    RefusedAt(Refusal, usize),
-}
-
-impl Reply {
-    // Its number in the table.
-    pub fn number(self) -> u32
-        ensures { result ≡ (told self).number }
-    {
-        match self {
-            Reply::Done => 0,
-            Reply::Counted(_) => 0,
-            Reply::Refused(refusal) => refusal.number(),
-            Reply::RefusedAt(refusal, _) => refusal.number(),
-        }
-    }
-
-    // Its value, how many or the offset; 0 where it tells none.
-    pub fn value(self) -> usize
-        ensures { result ≡ value_of (told self) }
-    {
-        match self {
-            Reply::Done => 0,
-            Reply::Counted(count) => count,
-            Reply::Refused(_) => 0,
-            Reply::RefusedAt(_, offset) => offset,
-        }
-    }
-
-    // Whether nothing is refused.
-    pub fn is_done(self) -> bool
-        ensures { result ≡ is_done (told self) }
-    {
-        self.number() == 0
-    }
-}
-
-// What came of a drawing: the reply, and what to repaint, which is nothing where it is refused.
-#[derive(Clone, Copy)]
+/// What came of a drawing: how many, where it tells that (a line's cells on the sheet, a file's records), and what to repaint.
+#[derive(Clone, Copy, Debug, PartialEq, Eq, Hash)]
 pub struct Drawn {
-    pub reply: Reply,
+    pub count: Option<usize>,
     pub rectangle: Rectangle,
 }
 
-// A drawing that set no cell.
-pub fn undrawn(reply: Reply) -> Drawn
-    ensures { told_drawn result ≡ with_box (told reply) nothing }
-{
-    Drawn {
-        reply,
-        rectangle: Rectangle::none(),
+impl Shape {
+    // Whether its sizes and its pitch are within their limits.
+    fn is_sized(self) -> bool
+        ensures { result ≡ sized self }
+    {
+        (1..=4096).contains(&self.width)
+            && (1..=4096).contains(&self.height)
+            && (self.width..=8192).contains(&self.pitch)
     }
-}
 
-// Whether a width or a height is within its limits.
-fn is_size(n: u32) -> bool
-    ensures { result ≡ size n }
-{
-    (1 <= n) & (n <= 4096)
-}
-
-// Whether a pitch is within its limits, for rows of this width.
-fn is_pitch(width: u32, pitch: u32) -> bool
-    ensures { result ≡ pitched width pitch }
-{
-    (width <= pitch) & (pitch <= 8192)
-}
-
-// Tests a sheet, as every drawing does first: done, where a slice of this many bytes is one of the shape.
-pub fn check(shape: Shape, bytes: usize) -> Reply
-    ensures { told result ≡ if_sheet shape bytes (done []) }
-{
-    let width = shape.width;
-    let height = shape.height;
-    let pitch = shape.pitch;
-    if !(is_size(width) & is_size(height) & is_pitch(width, pitch)) {
-        return Reply::Refused(Refusal::Size);
+    /// Tests a sheet, as every drawing does first: whether a slice of this many bytes is one of the shape.
+    #[tactic(auto, unfolding(crate::specs::Drawing::if_sheet))]
+    pub fn check(self, bytes: usize) -> Result<(), Refusal>
+        ensures { told test_answer result ≡ if_sheet self bytes (done []) }
+    {
+        if !self.is_sized() {
+            return Err(Refusal::Size);
+        }
+        if bytes != self.pitch as usize * self.height as usize {
+            return Err(Refusal::Slice);
+        }
+        Ok(())
     }
-    if bytes != pitch as usize * height as usize {
-        return Reply::Refused(Refusal::Slice);
-    }
-    Reply::Done
 }
 
 impl Cell {
-    // The limits of a coordinate.
+    /// The limits of a coordinate.
     pub const LEAST: i32 = -16384;
 
     pub const MOST: i32 = 16383;
 }
 
-// Whether a coordinate, a semi-axis beside the other, both semi-axes, and s are within their limits.
+/// Whether a coordinate is within its limits.
+#[tactic(auto, unfolding(crate::specs::Sheet::coordinate))]
 pub fn is_coordinate(z: i32) -> bool
     ensures { result ≡ coordinate z }
 {
-    (Cell::LEAST <= z) & (z <= Cell::MOST)
+    (Cell::LEAST..=Cell::MOST).contains(&z)
 }
 
+/// Whether a semi-axis is 0 to 16,383, and not 0 beside another that is not 0.
+#[tactic(auto, unfolding(crate::specs::Sheet::semi_axis))]
 pub fn is_semi_axis(n: u32, other: u32) -> bool
     ensures { result ≡ semi_axis n other }
 {
     (n <= 16383) & ((1 <= n) | (other == 0))
 }
 
+/// Whether each of two semi-axes is so beside the other.
+#[tactic(auto, unfolding(crate::specs::Sheet::semi_axis))]
 pub fn are_axes(a: u32, b: u32) -> bool
     ensures { result ≡ axes a b }
 {
     (a <= 16383) & (b <= 16383) & ((a == 0) == (b == 0))
 }
 
+/// Whether s, which splits a curve into 2^s pieces, is 0 to 6.
 pub fn is_split(n: u32) -> bool
     ensures { result ≡ split n }
 {
     n <= 6
 }
 
-// A coordinate, lifted onto the moved plane; 0 for one outside the limits.
+/// A coordinate, lifted onto the moved plane; 0 for one outside the limits.
+#[tactic(auto, unfolding(crate::specs::Inner::moved, crate::specs::Sheet::coordinate))]
 pub fn lift(z: i32) -> u32
     ensures { result ≡ moved z }
 {
@@ -258,7 +141,8 @@ pub fn lift(z: i32) -> u32
     (z + 65536) as u32
 }
 
-// And back; 0 for a number that no coordinate is lifted to.
+/// The coordinate that a number of the moved plane stands for; 0 where that is outside the limits.
+#[tactic(auto, unfolding(crate::specs::Inner::lowered, crate::specs::Sheet::coordinate))]
 pub fn lower(m: u32) -> i32
     ensures { result ≡ lowered m }
 {
@@ -271,7 +155,7 @@ pub fn lower(m: u32) -> i32
     m as i32 - 65536
 }
 
-// A cell, lifted.
+/// A cell, lifted.
 pub fn lift_cell(cell: Cell) -> Spot
     ensures { result ≡ moved_cell cell }
 {
@@ -281,7 +165,7 @@ pub fn lift_cell(cell: Cell) -> Spot
     }
 }
 
-// And back.
+/// The cell that a spot stands for.
 pub fn lower_cell(spot: Spot) -> Cell
     ensures { result ≡ lowered_cell spot }
 {
@@ -291,14 +175,16 @@ pub fn lower_cell(spot: Spot) -> Cell
     }
 }
 
-// Whether both coordinates are within the limits.
+/// Whether both coordinates are within the limits.
+#[tactic(auto, unfolding(crate::specs::Sheet::within_limits))]
 pub fn in_limits(cell: Cell) -> bool
     ensures { result ≡ within_limits cell }
 {
     is_coordinate(cell.x) & is_coordinate(cell.y)
 }
 
-// Sets the cell at the spot to the ink where it is on the sheet; any other is skipped.
+/// Sets the cell at the spot to the ink where it is on the sheet; any other is skipped.
+#[tactic(auto, unfolding(crate::specs::Inner::inked_at, crate::specs::Sheet::on_sheet, crate::specs::Sheet::place))]
 pub fn ink_at(sheet: &mut [u8], shape: Shape, ink: u8, spot: Spot)
     ensures { sheet.new ≡ inked_at shape ink (unmoved_cell spot) sheet.old }
 {
@@ -328,21 +214,18 @@ pub fn ink_at(sheet: &mut [u8], shape: Shape, ink: u8, spot: Spot)
     sheet[at] = ink;
 }
 
-// Sets one cell to the ink: the smallest drawing.
-pub fn mark(sheet: &mut [u8], shape: Shape, ink: u8, cell: Cell) -> Drawn
-    ensures { Draws (mark_drawing shape ink cell) sheet.old (told_drawn result) sheet.new }
+/// Sets one cell to the ink: the smallest drawing.
+pub fn mark(sheet: &mut [u8], shape: Shape, ink: u8, cell: Cell) -> Result<Drawn, Refusal>
+    ensures { Draws (mark_drawing shape ink cell) sheet.old (told drawn_answer result) sheet.new }
 {
-    let tested = check(shape, sheet.len());
-    if !tested.is_done() {
-        return undrawn(tested);
-    }
+    shape.check(sheet.len())?;
     if !in_limits(cell) {
-        return undrawn(Reply::Refused(Refusal::Coordinate));
+        return Err(Refusal::Coordinate);
     }
     let spot = lift_cell(cell);
     ink_at(sheet, shape, ink, spot);
-    Drawn {
-        reply: Reply::Done,
+    Ok(Drawn {
+        count: None,
         rectangle: join_at(shape, spot, Rectangle::none()),
-    }
+    })
 }

@@ -1,13 +1,13 @@
 // What to repaint: the smallest rectangle that holds the cells a drawing sets.
-ghost use Rattle.std.specs.Prelude.{◌≡◌, min, max};
+ghost use Rattle.std.specs.Prelude.{◌≡◌};
 ghost use Rattle.sheet.specs.Repaint.{nothing, join};
 ghost use Rattle.sheet.specs.Inner.{unmoved_cell, joined_at};
 
 use crate::{Shape, Spot};
 
-// A rectangle of cells: the columns from left to before right, and the rows from top to before bottom. One that holds no cell is
-// from 4,096, which no sheet has, to 0.
-#[derive(Clone, Copy)]
+/// A rectangle of cells: the columns from left to before right, and the rows from top to before bottom. One that holds no cell is
+/// from 4,096, which no sheet has, to 0.
+#[derive(Clone, Copy, Debug, PartialEq, Eq, Hash)]
 pub struct Rectangle {
     pub left: u32,
     pub top: u32,
@@ -15,21 +15,8 @@ pub struct Rectangle {
     pub bottom: u32,
 }
 
-// The smaller, the larger.
-fn smaller(a: u32, b: u32) -> u32
-    ensures { result ≡ min a b }
-{
-    if a < b { a } else { b }
-}
-
-fn larger(a: u32, b: u32) -> u32
-    ensures { result ≡ max a b }
-{
-    if a < b { b } else { a }
-}
-
 impl Rectangle {
-    // That of no cell.
+    /// That of no cell.
     pub fn none() -> Rectangle
         ensures { result ≡ nothing }
     {
@@ -41,20 +28,22 @@ impl Rectangle {
         }
     }
 
-    // The smallest that holds both.
+    /// The smallest that holds both.
+    #[tactic(auto, unfolding(crate::specs::Repaint::join))]
     pub fn join(self, other: Rectangle) -> Rectangle
         ensures { result ≡ join self other }
     {
         Rectangle {
-            left: smaller(self.left, other.left),
-            top: smaller(self.top, other.top),
-            right: larger(self.right, other.right),
-            bottom: larger(self.bottom, other.bottom),
+            left: self.left.min(other.left),
+            top: self.top.min(other.top),
+            right: self.right.max(other.right),
+            bottom: self.bottom.max(other.bottom),
         }
     }
 }
 
-// The rectangle with the cell at the spot in it, where that is on the sheet; any other is skipped.
+/// The rectangle with the cell at the spot in it, where that is on the sheet; any other is skipped.
+#[tactic(auto, unfolding(crate::specs::Inner::joined_at, crate::specs::Sheet::on_sheet))]
 pub fn join_at(shape: Shape, spot: Spot, rectangle: Rectangle) -> Rectangle
     ensures { result ≡ joined_at shape (unmoved_cell spot) rectangle }
 {
