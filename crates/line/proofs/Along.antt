@@ -47,14 +47,8 @@ reached_whole true m g l = omega arith
 reached_whole false m g l = omega arith
 
 -- what the sum gains from place to place; what it loses is the rest of f
-abbrev gain : Bool → Bool → ℕ → ℕ
+abbrev pub gain : Bool → Bool → ℕ → ℕ
 gain up first f = cond (beq up first) f 0
-
-pub gain_le : (up first : Bool) (f : ℕ) → gain up first f ≤ f
-gain_le true true f = omega arith
-gain_le true false f = omega arith
-gain_le false true f = omega arith
-gain_le false false f = omega arith
 
 module _ (m l f : ℕ) (a : Bounded m l f) where
   -- no sum goes far

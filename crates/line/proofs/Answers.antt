@@ -11,26 +11,26 @@ use Rattle.sheet.specs.Inner.{Moved, moved, unmoved, moved_cell, unmoved_cell, f
 use Rattle.sheet.specs.declared.Cell.{Cell}
 use Rattle.sheet.specs.declared.Shape.{Shape}
 use Rattle.sheet.specs.declared.Spot.{Spot}
-use Rattle.sheet.specs.declared.Refusal.TheVariants.{Size, Slice, Coordinate}
+use Rattle.sheet.specs.declared.refusal.Refusal.TheVariants.{Size, Slice, Coordinate}
 use Rattle.sheet.proofs.Boxes.{box_as, box_only}
 use Rattle.sheet.proofs.Count.{cells_as}
 use Rattle.sheet.proofs.Draws.{draws, drawn, kept, box_told, draws_as}
 use Rattle.sheet.proofs.Lent.{if_sheet_lem}
 use Rattle.sheet.proofs.Limits.{LiftedCell, lift_in, limit_low, limit_high, limit_below, limit_above, limits_x, limits_y, moved_in, moved_out, stands_parts}
 use Rattle.sheet.proofs.Paint.{paint_as}
-use Rattle.line.specs.Rule.{long, nth, on_line}
+use Rattle.line.specs.Rule.{nth, on_line}
 use Rattle.line.specs.Draw.{line_answer, line_drawing}
-use Rattle.line.specs.Inner.Course.{course_between, Runs, first_cells}
+use Rattle.line.specs.Inner.Course.{path_between, IsMoved, Runs, first_cells}
 use Rattle.line.specs.Inner.Span.{On, told_cells}
-use Rattle.line.specs.declared.Course.{Course}
+use Rattle.line.specs.declared.Path.{Path}
 use Rattle.line.proofs.Bridge.{ends_lifted, course_runs, course_cell_lem, course_long}
 
 -- the cells of the course of two lifted ends are the line's
 line_cells : (a b : Cell) (p q : Spot) → LiftedCell a p → LiftedCell b q → (d : Cell)
-    → first_cells (course_between p q) ((course_between p q).long + 1) d ≡ on_line a b d
+    → first_cells (path_between p q) ((path_between p q).long + 1) d ≡ on_line a b d
 unfolding first_cells on_line
 line_cells a b p q P Q d =
-    any_as ((course_between p q).long + 1) _ _ (λ n l. ap (λ (c : Cell). is_cell c d) (course_cell_lem a b p q P Q n (omega (arith, (course_runs a b p q P Q).limit))))
+    any_as ((path_between p q).long + 1) _ _ (λ n l. ap (λ (c : Cell). is_cell c d) (course_cell_lem a b p q P Q n (omega (arith, (course_runs a b p q P Q).limit))))
     ∙ ap (λ (l : ℕ). any (l + 1) (λ (n : ℕ). is_cell (nth a b n) d)) (course_long a b p q P Q)
 
 -- a line with ends within the limits, on a sheet that fits
@@ -49,12 +49,12 @@ module _ (k : Shape) (a b : Cell) where
   line_told_box ink s t r e f g h =
       box_told (line_drawing k ink a b) s r t h (ap is_done (line_inside (length s) e (ap₂ ◌&&◌ f g))) ∙ box_only k ink (on_line a b)
 
-  module _ (p q : Spot) (c : Course) (P : LiftedCell a p) (Q : LiftedCell b q) (ec : c ≡ course_between p q) where
+  module _ (p q : Spot) (c : Path) (P : LiftedCell a p) (Q : LiftedCell b q) (ec : c ≡ path_between p q) where
     pub line_runs : Runs c
     line_runs = rw ec (course_runs a b p q P Q)
 
     cells : (d : Cell) → first_cells c (c.long + 1) d ≡ on_line a b d
-    cells d = ap (λ (c : Course). first_cells c (c.long + 1) d) ec ∙ line_cells a b p q P Q d
+    cells d = ap (λ (c : Path). first_cells c (c.long + 1) d) ec ∙ line_cells a b p q P Q d
 
     pub line_painted : (ink : ℕ) (s t : List ℕ) → t ≡ paint k ink (first_cells c (c.long + 1)) s → t ≡ paint k ink (on_line a b) s
     line_painted ink s t e = e ∙ paint_as k ink _ _ s (λ x y u v. cells (cell_of x y))
@@ -87,6 +87,9 @@ pub on_limits : (k : Shape) (p : Spot) → k.width ≤ 4096 → k.height ≤ 409
 unfolding within_limits
 on_limits k p w h o =
     ap₂ ◌&&◌ (moved_in p.x (record { least = omega (arith, o.left); most = omega (arith, o.right) })) (moved_in p.y (record { least = omega (arith, o.top); most = omega (arith, o.bottom) }))
+
+pub on_moved : (k : Shape) (p : Spot) → k.width ≤ 4096 → k.height ≤ 4096 → On k p → IsMoved p
+on_moved k p w h o = record { x = record { least = omega (arith, o.left); most = omega (arith, o.right) }; y = record { least = omega (arith, o.top); most = omega (arith, o.bottom) } }
 
 -- the code's test of the limits
 moved_test : (m : ℕ) → (leb 49152 m && leb m 81919) ≡ coordinate (unmoved m)

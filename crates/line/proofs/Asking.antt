@@ -1,21 +1,17 @@
 -- A pen begun and asked again and again lists the cells of its line, in both forms; and which states that leads to.
-use Rattle.std.proofs.Common.{◌≡◌, ℕ, zero, suc, ◌+◌, ◌<◌, ◌≤◌, min, Bool, true, false, cond, ◌&&◌, leb, ◌↔◌, [], length, sym, refl, ap, ◌∙◌, subst, inl, inr, add-one, arith, leb→le}
+use Rattle.std.proofs.Common.{◌≡◌, Option, Some, None, Ok, ℕ, zero, suc, ◌+◌, ◌<◌, ◌≤◌, min, Bool, true, false, cond, ◌&&◌, leb, ◌↔◌, [], length, sym, refl, ap, ◌∙◌, subst, inl, inr, add-one, arith, leb→le}
 use Rattle.laws.proofs.Products.{lt_or_ge}
 use Rattle.laws.proofs.Tests.{and_l, and_r, is_true, is_false, from_true}
 use Rattle.sheet.specs.Sheet.{within_limits}
-use Rattle.sheet.specs.Reply.{Answer, done, unless}
+use Rattle.sheet.specs.Reply.{Answer, done, told as told_of, told_next, unless}
 use Rattle.sheet.specs.declared.Cell.{Cell}
-use Rattle.sheet.specs.declared.Refusal.TheVariants.{Coordinate}
+use Rattle.sheet.specs.declared.refusal.Refusal.TheVariants.{Coordinate}
 use Rattle.line.specs.Rule.{long}
 use Rattle.line.specs.Listing.{listed}
-use Rattle.line.specs.Pen.{pen_values, told_begun, told_step, fresh, begin_answer, has_cell, next_cell, moved_on, next_answer, ask_answer, left}
+use Rattle.line.specs.Pen.{pen_values, pen_answer, step_answer, fresh, begin_answer, has_cell, next_cell, moved_on, next_answer, ask_answer, left}
 use Rattle.line.specs.Inner.Step.{asked_of}
 use Rattle.line.specs.Asking.{Asks, Lends, Lists, Reached, begun, asked, lent}
 use Rattle.line.specs.declared.pen.Pen.{Pen}
-use Rattle.line.specs.declared.pen.Begun.TheVariants as begin
-use Rattle.line.specs.declared.pen.Step.{Step}
-use Rattle.line.specs.declared.pen.Step.TheVariants as step
-use Rattle.line.specs.declared.pen.Asked.{Asked}
 use Rattle.line.proofs.Replies.{pen_one, asked_one}
 use Rattle.line.proofs.Pens.{Takes, has_cell_lem, past_last, finishes, answers, next_of, next_is, asks}
 
@@ -24,7 +20,7 @@ abbrev told : Cell → Cell → ℕ → Pen
 told a b n = record { from = a; to = b; told = n }
 
 -- what a beginning answers
-begins : (a b : Cell) (p : Pen) → told_begun (begin.Pen p) ≡ begin_answer a b → Takes a b × (p ≡ fresh a b)
+begins : (a b : Cell) (p : Pen) → told_of pen_answer (Ok p) ≡ begin_answer a b → Takes a b × (p ≡ fresh a b)
 unfolding begin_answer
 begins a b p e = by (within_limits a && within_limits b) e
   where
@@ -34,11 +30,11 @@ begins a b p e = by (within_limits a && within_limits b) e
 
 -- the reply of a pen that has answered n cells, and the pen that it leaves
 module _ (a b : Cell) (e : Takes a b) where
-  next_cell_lem : (n : ℕ) (s : Step) → told_step s ≡ next_answer (told a b n) → n ≤ long a b → s ≡ step.Cell (listed a b n) (told a b (n + 1))
+  next_cell_lem : (n : ℕ) (s : Option (Cell × Pen)) → told_next step_answer s ≡ next_answer (told a b n) → n ≤ long a b → s ≡ Some (listed a b n, told a b (n + 1))
   unfolding next_of
   next_cell_lem n s f l = next_is (told a b n) s f ∙ simp (has_cell_lem (told a b n) e l)
 
-  next_none : (n : ℕ) (s : Step) → told_step s ≡ next_answer (told a b n) → long a b < n → s ≡ step.Finished
+  next_none : (n : ℕ) (s : Option (Cell × Pen)) → told_next step_answer s ≡ next_answer (told a b n) → long a b < n → s ≡ None
   unfolding next_of
   next_none n s f l = next_is (told a b n) s f ∙ simp (past_last (told a b n) e l)
 
@@ -53,10 +49,10 @@ module _ (a b : Cell) (e : Takes a b) where
       more h = let g : n + 1 ≡ m = omega arith in simp (has_cell_lem (told a b n) e h) (ap (told a b) g)
 
 -- by value, too, the pen asked next is the one that the lent form leaves
-then_left : {p : Pen} {pens : ℕ → Pen} {steps : ℕ → Step} → Asks p pens steps → (n : ℕ) → pens (suc n) ≡ left (pens n)
+then_left : {p : Pen} {pens : ℕ → Pen} {steps : ℕ → Option (Cell × Pen)} → Asks p pens steps → (n : ℕ) → pens (suc n) ≡ left (pens n)
 then_left {pens = pens} {steps = steps} r n = (asks (pens n) (steps n) (asked_of (steps n)) (pens (suc n)) (r.reply n) refl (r.then n)).1
 
-module _ (a b : Cell) (p : Pen) (pens : ℕ → Pen) (steps : ℕ → Step) (e : told_begun (begin.Pen p) ≡ begin_answer a b) (r : Asks p pens steps) where
+module _ (a b : Cell) (p : Pen) (pens : ℕ → Pen) (steps : ℕ → Option (Cell × Pen)) (e : told_of pen_answer (Ok p) ≡ begin_answer a b) (r : Asks p pens steps) where
   within : Takes a b
   within = (begins a b p e).0
 
@@ -67,7 +63,7 @@ module _ (a b : Cell) (p : Pen) (pens : ℕ → Pen) (steps : ℕ → Step) (e :
       let k = min n (long a b + 1) in
       then_left r n ∙ ap left (pens_are n k refl) ∙ left_at a b within k m (omega arith) (omega arith)
 
-  reply_of : (n m : ℕ) → m ≡ min n (long a b + 1) → told_step (steps n) ≡ next_answer (told a b m)
+  reply_of : (n m : ℕ) → m ≡ min n (long a b + 1) → told_next step_answer (steps n) ≡ next_answer (told a b m)
   reply_of n m f = r.reply n ∙ ap next_answer (pens_are n m f)
 
   -- a pen that was begun lists the cells of its line
@@ -76,13 +72,13 @@ module _ (a b : Cell) (p : Pen) (pens : ℕ → Pen) (steps : ℕ → Step) (e :
       record {
         cells = λ n l.
             next_cell_lem a b within n (steps n) (reply_of n n (omega arith)) l
-            ∙ ap (step.Cell (listed a b n)) (sym (pens_are (suc n) (n + 1) (omega arith)));
+            ∙ ap (λ (q : Pen). Some (listed a b n, q)) (sym (pens_are (suc n) (n + 1) (omega arith)));
         finished = λ n l. next_none a b within (long a b + 1) (steps n) (reply_of n (long a b + 1) (omega arith)) (omega arith);
         stays = λ n l. pens_are (suc n) (long a b + 1) (omega arith) ∙ sym (pens_are n (long a b + 1) (omega arith));
       }
 
 -- Both forms give the same cells: whatever pen is asked, by value and lent, the nth replies tell the same, and the pens are the same.
-module _ (p : Pen) (pens lent_pens : ℕ → Pen) (steps : ℕ → Step) (replies : ℕ → Asked) (r : Asks p pens steps) (l : Lends p lent_pens replies) where
+module _ (p : Pen) (pens lent_pens : ℕ → Pen) (steps : ℕ → Option (Cell × Pen)) (replies : ℕ → Option Cell) (r : Asks p pens steps) (l : Lends p lent_pens replies) where
   pub same_pens : (n : ℕ) → lent_pens n ≡ pens n
   same_pens zero = l.first ∙ sym r.first
   same_pens (suc n) = l.then n ∙ ap left (same_pens n) ∙ sym (then_left r n)
@@ -96,7 +92,7 @@ module _ (p : Pen) (pens lent_pens : ℕ → Pen) (steps : ℕ → Step) (replie
 abbrev pub Reachable : Pen → Type 0
 Reachable p = Takes p.from p.to × (p.told ≤ long p.from p.to + 1)
 
-cell_left : (p : Pen) → has_cell p ≡ true → Takes p.from p.to × (p.told ≤ long p.from p.to)
+pub cell_left : (p : Pen) → has_cell p ≡ true → Takes p.from p.to × (p.told ≤ long p.from p.to)
 unfolding has_cell
 cell_left p e =
     let ends = within_limits p.from && within_limits p.to in
@@ -114,7 +110,7 @@ left_reachable p r = by (has_cell p) refl
 
 reached_in : {p : Pen} → Reached p → Reachable p
 reached_in (begun a b p e) = let f = begins a b p e in subst Reachable (sym f.1) (f.0, omega arith)
-reached_in (asked p q c r e) = subst Reachable (sym (asks p (step.Cell c q) _ q e refl refl).1) (left_reachable p (reached_in r))
+reached_in (asked p q c r e) = subst Reachable (sym (asks p (Some (c, q)) _ q e refl refl).1) (left_reachable p (reached_in r))
 reached_in (lent p r) = left_reachable p (reached_in r)
 
 reach : (a b : Cell) → Takes a b → (n : ℕ) → n ≤ long a b + 1 → Reached (told a b n)

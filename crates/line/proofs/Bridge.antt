@@ -1,10 +1,9 @@
 -- From the moved plane to the rule: the course of two lifted ends runs over the line's cells.
-use Rattle.std.proofs.Common.{◌≡◌, ℕ, ◌+◌, ◌*◌, ◌<◌, ◌≤◌, min, Bool, true, false, cond, ◌&&◌, ◌||◌, T, eqb, ltb, leb, ℤ, pos, ◌+ℤ◌, ◌-ℤ◌, nat_abs, sym, refl, ap, ◌∙◌, subst, ⊎_elim, arith, le→leb, eqb→eq, ltb→lt, lt→ltb, leb→le, ltb-false, ltb-true, eqb-true, le-leb}
+use Rattle.std.proofs.Common.{◌≡◌, ℕ, ◌+◌, ◌≤◌, Bool, true, false, cond, ◌&&◌, ◌||◌, T, eqb, ltb, leb, ℤ, pos, ◌+ℤ◌, ◌-ℤ◌, nat_abs, sym, refl, ap, ◌∙◌, subst, arith, le→leb, eqb→eq, ltb→lt, lt→ltb, leb→le, ltb-false, ltb-true, eqb-true, le-leb}
 use lib.Signed.{lt_z, le_z}
 use Rattle.laws.specs.Equal.{eq_z}
 use Rattle.laws.proofs.Ints.{parts, one_zero, le_parts, lt_parts, to_le_z, to_lt_z, to_≡ℤ, from_≡ℤ, eq_z→≡, eq_z_refl}
-use Rattle.laws.proofs.Products.{lt_or_ge}
-use Rattle.laws.proofs.Tests.{same, and_l, and_r, and_i, or_l, or_r, or_e, from_true, halves, eqb_of}
+use Rattle.laws.proofs.Tests.{same, from_true, halves, eqb_of}
 use Rattle.sheet.specs.Chain.{wide, tall}
 use Rattle.sheet.specs.Sheet.{within_limits}
 use Rattle.sheet.specs.Inner.{unmoved, moved_cell, unmoved_cell, Moved}
@@ -12,7 +11,7 @@ use Rattle.sheet.specs.declared.Cell.{Cell}
 use Rattle.sheet.specs.declared.Spot.{Spot}
 use Rattle.sheet.proofs.Limits.{LiftedCell, lifted_cell, stands_parts}
 use Rattle.line.specs.Rule.{lesser, longer, shorter, long, rise, toward, from_lesser, nth}
-use Rattle.line.specs.Inner.Course.{gap, stepped, spot_at, lesser_spot, course_from, course_between, Runs}
+use Rattle.line.specs.Inner.Course.{gap, stepped, spot_at, lesser_spot, path_from, path_between, Runs}
 use Rattle.line.proofs.Rise.{rise_le}
 
 -- m stands for z
@@ -77,26 +76,6 @@ cond_le false m n k p q = q
 pub longer_le : (w t k : ℕ) → w ≤ k → t ≤ k → longer w t ≤ k
 longer_le w t k p q = cond_le (ltb w t) t w k q p
 
--- spots by their rows and then their columns
-pub order_lesser : (p q : Spot) → p.x < 4294967296 → q.x < 4294967296 → leb (4294967296 * p.y + p.x) (4294967296 * q.y + q.x) ≡ lesser_spot p q
-order_lesser p q u v = same _ _ to from
-  where
-    to : T (leb (4294967296 * p.y + p.x) (4294967296 * q.y + q.x)) → T (lesser_spot p q)
-    to t =
-        let h = leb→le (4294967296 * p.y + p.x) (4294967296 * q.y + q.x) t in
-        ⊎_elim
-        (λ l. or_l (ltb p.y q.y) _ (lt→ltb p.y q.y l))
-        (λ g. or_r (ltb p.y q.y) _ (and_i (eqb p.y q.y) (leb p.x q.x) (eqb_of p.y q.y (omega arith)) (le→leb p.x q.x (omega arith))))
-        (lt_or_ge p.y q.y)
-
-    from : T (lesser_spot p q) → T (leb (4294967296 * p.y + p.x) (4294967296 * q.y + q.x))
-    from t =
-        le→leb (4294967296 * p.y + p.x) (4294967296 * q.y + q.x)
-        (⊎_elim
-        (λ l. omega (arith, ltb→lt p.y q.y l))
-        (λ g. omega (arith, eqb→eq p.y q.y (and_l (eqb p.y q.y) (leb p.x q.x) g), leb→le p.x q.x (and_r (eqb p.y q.y) (leb p.x q.x) g)))
-        (or_e (ltb p.y q.y) (eqb p.y q.y && leb p.x q.x) t))
-
 -- a lesser spot has no greater y
 pub lesser_y : (p q : Spot) → lesser_spot p q ≡ true → p.y ≤ q.y
 lesser_y p q e = by (ltb p.y q.y) (eqb p.y q.y) refl refl e
@@ -136,7 +115,7 @@ module _ (a b : Cell) (p q : Spot) (P : LiftedCell a p) (Q : LiftedCell b q) whe
   unfolding lesser
   lesser_is = λ i. same_lt p.y q.y a.y b.y ay by i || (same_eq p.y q.y a.y b.y ay by i && same_le p.x q.x a.x b.x ax bx i)
 
-  from_runs : Runs (course_from p q)
+  from_runs : Runs (path_from p q)
   from_runs =
       record {
         start_x = P.inside_x;
@@ -154,7 +133,7 @@ module _ (a b : Cell) (p q : Spot) (P : LiftedCell a p) (Q : LiftedCell b q) whe
       let e : stepped (leb p.y q.y) p.y k ≡ p.y + k = rw (le-leb p.y q.y h) in
       ap unmoved (sym e) ∙ same_step p.y q.y a.y b.y ay by k (omega (arith, P.inside_y.least))
 
-  from_cell : p.y ≤ q.y → (n : ℕ) → n ≤ 32767 → unmoved_cell (spot_at (course_from p q) n) ≡ from_lesser a b n
+  from_cell : p.y ≤ q.y → (n : ℕ) → n ≤ 32767 → unmoved_cell (spot_at (path_from p q) n) ≡ from_lesser a b n
   unfolding spot_at from_lesser
   from_cell h n l =
       let w = gap p.x q.x in
@@ -166,7 +145,7 @@ module _ (a b : Cell) (p q : Spot) (P : LiftedCell a p) (Q : LiftedCell b q) whe
       let g : (w t : ℕ) → ℕ = λ w t. cond (ltb w t) n (rise (longer w t) (shorter w t) n) in
       λ i. record { x = (u ∙ ap (toward a.x b.x) (λ j. f (wide_is j) (tall_is j))) i; y = (v ∙ ap (toward a.y b.y) (λ j. g (wide_is j) (tall_is j))) i }
 
-  from_long : (course_from p q).long ≡ long a b
+  from_long : (path_from p q).long ≡ long a b
   from_long = λ i. longer (wide_is i) (tall_is i)
 
 -- two ends within the limits, lifted
@@ -182,55 +161,29 @@ module _ (a b : Cell) (e : (within_limits a && within_limits b) ≡ true) where
 
 -- the course of two lifted ends, whichever is the lesser
 module _ (a b : Cell) (p q : Spot) (P : LiftedCell a p) (Q : LiftedCell b q) where
-  pub course_runs : Runs (course_between p q)
-  unfolding course_between
+  pub course_runs : Runs (path_between p q)
+  unfolding path_between
   course_runs = either (lesser_spot p q)
     where
-      either : (t : Bool) → Runs (cond t (course_from p q) (course_from q p))
+      either : (t : Bool) → Runs (cond t (path_from p q) (path_from q p))
       either true = from_runs a b p q P Q
       either false = from_runs b a q p Q P
 
-  pub course_cell_lem : (n : ℕ) → n ≤ 32767 → unmoved_cell (spot_at (course_between p q) n) ≡ nth a b n
-  unfolding course_between nth
+  pub course_cell_lem : (n : ℕ) → n ≤ 32767 → unmoved_cell (spot_at (path_between p q) n) ≡ nth a b n
+  unfolding path_between nth
   course_cell_lem n l = rw (← lesser_is a b p q P Q) (either (lesser_spot p q) refl)
     where
-      either : (t : Bool) → lesser_spot p q ≡ t → unmoved_cell (spot_at (cond t (course_from p q) (course_from q p)) n) ≡ cond t (from_lesser a b n) (from_lesser b a n)
+      either : (t : Bool) → lesser_spot p q ≡ t → unmoved_cell (spot_at (cond t (path_from p q) (path_from q p)) n) ≡ cond t (from_lesser a b n) (from_lesser b a n)
       either true e = from_cell a b p q P Q (lesser_y p q e) n l
       either false e = from_cell b a q p Q P (not_lesser_y p q e) n l
 
-  pub course_long : (course_between p q).long ≡ long a b
-  unfolding course_between
+  pub course_long : (path_between p q).long ≡ long a b
+  unfolding path_between
   course_long = either (lesser_spot p q) ∙ from_long a b p q P Q
     where
-      either : (t : Bool) → (cond t (course_from p q) (course_from q p)).long ≡ (course_from p q).long
+      either : (t : Bool) → (cond t (path_from p q) (path_from q p)).long ≡ (path_from p q).long
       either true = refl
       either false = λ i. longer (gap_comm q.x p.x i) (gap_comm q.y p.y i)
 
   pub long_limit : long a b ≤ 32767
   long_limit = omega (arith, course_long, course_runs.limit)
-
--- the course from p to q by its parts
-parts_are : (p q : Spot) (x y far w h l s : ℕ) → x ≡ p.x → y ≡ p.y → far ≡ q.x → w ≡ gap p.x q.x → h ≡ gap p.y q.y → l ≡ longer w h → s ≡ shorter w h
-    → record { x = x; y = y; right = leb x far; steep = ltb w h; long = l; short = s } ≡ course_from p q
-parts_are p q x y far w h l s ex ey ef ew eh el es =
-    λ i.
-    record {
-      x = ex i;
-      y = ey i;
-      right = leb (ex i) (ef i);
-      steep = ltb (ew i) (eh i);
-      long = (el ∙ (λ j. longer (ew j) (eh j))) i;
-      short = (es ∙ (λ j. shorter (ew j) (eh j))) i;
-    }
-
--- the course by its parts, as the code finds them
-pub course_by : (p q : Spot) (t : Bool) (x y far w h l s : ℕ) → t ≡ lesser_spot p q
-    → x ≡ cond t p.x q.x → far ≡ cond t q.x p.x → y ≡ min p.y q.y → w ≡ gap p.x q.x → h ≡ gap p.y q.y → l ≡ longer w h → s ≡ shorter w h
-    → record { x = x; y = y; right = leb x far; steep = ltb w h; long = l; short = s } ≡ course_between p q
-unfolding course_between
-course_by p q true x y far w h l s e ex ef ey ew eh el es =
-    let top : y ≡ p.y = omega (arith, lesser_y p q (sym e)) in
-    rw (← e) (parts_are p q x y far w h l s ex top ef ew eh el es)
-course_by p q false x y far w h l s e ex ef ey ew eh el es =
-    let top : y ≡ q.y = omega (arith, not_lesser_y p q (sym e)) in
-    rw (← e) (parts_are q p x y far w h l s ex top ef (ew ∙ gap_comm p.x q.x) (eh ∙ gap_comm p.y q.y) el es)

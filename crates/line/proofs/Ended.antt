@@ -10,7 +10,7 @@ use Rattle.sheet.proofs.Boxes.{rectangle_is}
 use Rattle.sheet.proofs.Limits.{unmoved_cell_lem}
 use Rattle.sheet.proofs.Marks.{box_one}
 use Rattle.line.specs.Rule.{on_line}
-use Rattle.line.specs.Inner.Course.{course_between}
+use Rattle.line.specs.Inner.Course.{path_between}
 use Rattle.line.specs.Inner.Span.{On, spanning}
 use Rattle.line.proofs.Answers.{spot_lifted, on_limits, line_runs, line_boxed}
 use Rattle.line.proofs.OnSheet.{on_of}
@@ -34,7 +34,7 @@ module _ (k : Shape) (w : k.width ≤ 4096) (h : k.height ≤ 4096) where
       let u = on_of k q f in
       let P = spot_lifted p (on_limits k p w h o) in
       let Q = spot_lifted q (on_limits k q w h u) in
-      let c = course_between p q in
+      let c = path_between p q in
       sym (line_boxed k _ _ p q c P Q refl)
       ∙ whole_box k w h c p q refl (line_runs k _ _ p q c P Q refl) o u
       ∙ both_spots p q o u

@@ -1,6 +1,6 @@
 -- In 2H parts, where 2L² is less than H, the whole part of nF + H + 2L, with F = floor(S(2H − 1) / L), is rise L S n:
 -- F falls short of 2HS / L by less than 2, so n of them by less than 2L, and 2L / 2H is less than 1 / 2L, the least that the fraction can be below 1.
-use Rattle.std.proofs.Common.{◌≡◌, ℕ, zero, suc, ◌+◌, ◌*◌, ◌/◌, ◌%◌, ◌^◌, ◌<◌, ◌≤◌, Bool, true, false, cond, ltb, sym, refl, ap, ◌∙◌, mul-le-mul_right, div-lt_iff_lt-mul, mul-le-mul, mul-le-mul_left, arith, ltb-false, ltb-true}
+use Rattle.std.proofs.Common.{◌≡◌, ℕ, zero, suc, ◌+◌, ◌*◌, ◌/◌, ◌%◌, ◌<◌, ◌≤◌, Bool, true, false, cond, ltb, sym, refl, ap, ◌∙◌, mul-le-mul_right, div-lt_iff_lt-mul, mul-le-mul, mul-le-mul_left, arith, ltb-false, ltb-true}
 use native.Mathlib.Nat.{div-zero}
 use Rattle.laws.proofs.Floor.{div_is, div_low, div_high}
 use Rattle.laws.proofs.Products.{mul_lt_back}
@@ -59,18 +59,6 @@ pub slope_fits : (l s : ℕ) → s ≤ l → gradient l s ≤ 4294967295
 unfolding gradient
 slope_fits zero s a = omega (arith, div-zero (s * 4294967295))
 slope_fits (suc l) s a = parts_fit 4294967295 (suc l) s (omega arith) a
-
-pub tally_fits : (l n f : ℕ) → n ≤ l → l ≤ 32767 → f < 2 ^ 32 → n * f ≤ 140733193388032
-tally_fits l n f a b c =
-    let u : f ≤ 4294967295 = omega arith in
-    let v : n ≤ 32767 = omega arith in
-    omega (arith, mul-le-mul {n₁ = n} {m₁ = f} {n₂ = 32767} {m₂ = 4294967295} v u)
-
--- a line of one cell has no gradient
-pub slope_none : (l s : ℕ) → l < 1 → 0 ≡ gradient l s
-unfolding gradient
-slope_none zero s a = sym (div-zero (s * 4294967295))
-slope_none (suc l) s a = absurd (omega arith)
 
 -- where a walk starts
 pub tally_is : (l s n f t : ℕ) → f ≡ gradient l s → t ≡ gone l f n → t ≡ tally l s n

@@ -2,37 +2,19 @@
 use Rattle.std.proofs.Common.{◌≡◌, ℕ, ◌+◌, ◌-◌, ◌*◌, ◌%◌, ◌^◌, ◌<◌, ◌≤◌, Bool, true, false, cond, not, refl, ap, ◌∙◌, mod-eq_of_lt, mul-le-mul, arith}
 use native.Mathlib.Nat.{add-mod_right}
 use Rattle.sheet.specs.declared.Shape.{Shape}
-use Rattle.sheet.specs.declared.Spot.{Spot}
 use Rattle.line.specs.Rule.{rise}
 use Rattle.line.specs.Inner.Course.{stepped, spot_at}
 use Rattle.line.specs.Inner.Span.{On, byte_of, alone_by, both_by}
-use Rattle.line.specs.declared.Course.{Course}
-use Rattle.line.proofs.Rise.{rise_short}
+use Rattle.line.specs.declared.Path.{Path}
 use Rattle.sheet.specs.Inner.{Disjoint}
 
 -- a row of the sheet starts below 2^25
 pub row_small : (pitch h y : ℕ) → pitch ≤ 8192 → h ≤ 4096 → y < h → y * pitch ≤ 33554432
 row_small pitch h y a b l = mul-le-mul {n₁ = y} {m₁ = pitch} {n₂ = 4096} {m₂ = 8192} (omega arith) a
 
--- no more steps than a line has cells
-pub steps_fit : (steep : Bool) (l s n q k : ℕ) → s ≤ l → l ≤ 32767 → n ≤ l → q ≡ rise l s n → k ≡ cond steep q n → k ≤ 32767
-steps_fit true l s n q k a b c e f = omega (arith, rise_short l s n c)
-steps_fit false l s n q k a b c e f = omega arith
-
 pub exchanged : (t : Bool) (m n : ℕ) → cond t m n ≡ cond (not t) n m
 exchanged true m n = refl
 exchanged false m n = refl
-
--- the spot that the code finds, from n steps along and q across
-pub spot_is : (c : Course) (n q k x j : ℕ) → q ≡ rise c.long c.short n → k ≡ cond c.steep q n → x ≡ stepped c.right c.x k → j ≡ cond c.steep n q
-    → ◌≡◌ {A = Spot} (record { x = x; y = c.y + j }) (spot_at c n)
-unfolding spot_at
-spot_is c n q k x j e f g h =
-    λ i.
-    record {
-      x = (g ∙ ap (stepped c.right c.x) (f ∙ ap (λ (z : ℕ). cond c.steep z n) e)) i;
-      y = c.y + (h ∙ ap (λ (z : ℕ). cond c.steep n z) e) i;
-    }
 
 -- a sum that does not wrap, and one that wraps once
 wrap_none : (a g b : ℕ) → a + g ≡ b → b < 2 ^ 64 → (a + g) % 2 ^ 64 ≡ b
@@ -73,7 +55,7 @@ rows true t m q q' n e a = omega arith
 rows false true m q q' n e a = omega arith
 rows false false m q q' n e a = omega arith
 
-module _ (k : Shape) (c : Course) (t : Bool) (n : ℕ) (disjoint : Disjoint k) (far : k.pitch ≤ 8192) (high : k.height ≤ 4096)
+module _ (k : Shape) (c : Path) (t : Bool) (n : ℕ) (disjoint : Disjoint k) (far : k.pitch ≤ 8192) (high : k.height ≤ 4096)
     (e : cond t (rise c.long c.short n + 1) (rise c.long c.short n) ≡ rise c.long c.short (n + 1))
     (o : On k (spot_at c n)) (o' : On k (spot_at c (n + 1))) where
   pub byte_hop : (byte_of k (spot_at c n) + cond t (both_by c.right k.pitch) (alone_by c.right c.steep k.pitch)) % 2 ^ 64 ≡ byte_of k (spot_at c (n + 1))

@@ -1,5 +1,5 @@
 -- A bound on the shorter extent's steps is a bound on n: k ≤ rise L S n just where (2k − 1)L ≤ 2nS.
-use Rattle.std.proofs.Common.{◌≡◌, ℕ, ◌+◌, ◌*◌, ◌/◌, ◌<◌, ◌≤◌, ap, mul-le-mul_right, div-lt_iff_lt-mul, mul-le-mul, le-div_iff_mul-le, arith}
+use Rattle.std.proofs.Common.{◌≡◌, ℕ, ◌+◌, ◌*◌, ◌/◌, ◌<◌, ◌≤◌, ap, mul-le-mul_right, div-lt_iff_lt-mul, le-div_iff_mul-le, arith}
 use Rattle.line.specs.Rule.{rise}
 use Rattle.line.specs.Inner.Span.{FirstAt}
 use Rattle.line.proofs.Rise.{rise_short}
@@ -39,7 +39,3 @@ module _ (k l s : ℕ) where
               let u : (n + 1) * (2 * s) ≤ p * l + d = (le-div_iff_mul-le {k = 2 * s} {x = n + 1} {y = p * l + d} (omega arith)).0 (omega arith) in
               rise_until l s n k (omega arith) (omega (arith, twice));
         }
-
-    -- the dividend fits
-    pub dividend_fits : l ≤ 32767 → p * l + d ≤ 2147483647
-    dividend_fits b = omega (arith, twice, mul-le-mul {n₁ = k} {m₁ = l} {n₂ = 32767} {m₂ = 32767} (omega arith) (omega arith))

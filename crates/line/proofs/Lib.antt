@@ -32,3 +32,4 @@ pub mod Walking
 pub mod Spanned
 pub mod Whole
 pub mod Within
+pub mod Yields

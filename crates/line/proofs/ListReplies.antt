@@ -6,15 +6,15 @@ use Rattle.sheet.specs.Inner.{moved_cell}
 use Rattle.sheet.specs.Reply.{done, refuse}
 use Rattle.sheet.specs.declared.Cell.{Cell}
 use Rattle.sheet.specs.declared.Spot.{Spot}
-use Rattle.sheet.specs.declared.Refusal.{Refusal}
-use Rattle.sheet.specs.declared.Refusal.TheVariants.{Coordinate, Room}
+use Rattle.sheet.specs.declared.refusal.Refusal.{Refusal}
+use Rattle.sheet.specs.declared.refusal.Refusal.TheVariants.{Coordinate, Room}
 use Rattle.sheet.proofs.Limits.{LiftedCell}
 use Rattle.sheet.proofs.Unique.{number_not_0}
 use Rattle.line.specs.Rule.{long}
 use Rattle.line.specs.Listing.{list_answer, listed_over, ListsInto}
-use Rattle.line.specs.Inner.Course.{lesser_spot, course_between, Runs}
+use Rattle.line.specs.Inner.Course.{lesser_spot, path_between, Runs}
 use Rattle.line.specs.Inner.Along.{over, course_cell}
-use Rattle.line.specs.declared.Course.{Course}
+use Rattle.line.specs.declared.Path.{Path}
 use Rattle.line.proofs.Bridge.{ends_lifted, course_long, course_runs}
 use Rattle.line.proofs.Filled.{course_listed}
 
@@ -37,7 +37,7 @@ pub list_coordinate : (a b : Cell) (xs ys : List ℤ) → (within_limits a && wi
 unfolding list_answer
 list_coordinate a b xs ys e = refuses a b xs ys Coordinate (simp e)
 
-module _ (a b : Cell) (p q : Spot) (c : Course) (e : (within_limits a && within_limits b) ≡ true) (hp : p ≡ moved_cell a) (hq : q ≡ moved_cell b) (hc : c ≡ course_between p q) where
+module _ (a b : Cell) (p q : Spot) (c : Path) (e : (within_limits a && within_limits b) ≡ true) (hp : p ≡ moved_cell a) (hq : q ≡ moved_cell b) (hc : c ≡ path_between p q) where
   P : LiftedCell a p
   P = (ends_lifted a b e p q hp hq).0
 
@@ -48,7 +48,7 @@ module _ (a b : Cell) (p q : Spot) (c : Course) (e : (within_limits a && within_
   runs = subst Runs (sym hc) (course_runs a b p q P Q)
 
   long_is : c.long ≡ long a b
-  long_is = ap (λ (c : Course). c.long) hc ∙ course_long a b p q P Q
+  long_is = ap (λ (c : Path). c.long) hc ∙ course_long a b p q P Q
 
   room_is : (n m : ℕ) (t : Bool) → roomy c.long n m ≡ t → roomy (long a b) n m ≡ t
   room_is n m t r = (λ i. roomy (sym long_is i) n m) ∙ r

@@ -16,9 +16,9 @@ use Rattle.sheet.proofs.Marks.{spot→, mark_on, inked_paints}
 use Rattle.line.specs.Rule.{rise}
 use Rattle.line.specs.Inner.Course.{stepped, spot_at, Runs, first_cells}
 use Rattle.line.specs.Inner.Span.{On, byte_of}
-use Rattle.line.specs.declared.Course.{Course}
+use Rattle.line.specs.declared.Path.{Path}
 
-module _ (k : Shape) (c : Course) where
+module _ (k : Shape) (c : Path) where
   -- a spot that is a cell of the sheet is on it
   pub is_on : (p : Spot) (x y : ℕ) → x < k.width → y < k.height → T (is_cell (unmoved_cell p) (cell_of x y)) → On k p
   is_on p x y a b t =
@@ -68,7 +68,7 @@ module _ (k : Shape) (c : Course) where
   paint_after ink s n m l off = paint_as k ink _ _ s (same_cells n m l off)
 
 -- no spot of a course comes twice
-spot_once : (c : Course) → Runs c → (i j : ℕ) → i ≤ c.long → j ≤ c.long → (spot_at c i).x ≡ (spot_at c j).x → (spot_at c i).y ≡ (spot_at c j).y → i ≡ j
+spot_once : (c : Path) → Runs c → (i j : ℕ) → i ≤ c.long → j ≤ c.long → (spot_at c i).x ≡ (spot_at c j).x → (spot_at c i).y ≡ (spot_at c j).y → i ≡ j
 unfolding spot_at
 spot_once c r i j a b p q = by c.steep c.right p q
   where
@@ -80,7 +80,7 @@ spot_once c r i j a b p q = by c.steep c.right p q
     by false true p q = omega arith
     by false false p q = omega (arith, r.limit, r.start_x.least)
 
-module _ (k : Shape) (w : Disjoint k) (c : Course) (r : Runs c) where
+module _ (k : Shape) (w : Disjoint k) (c : Path) (r : Runs c) where
   cells_one : (n : ℕ) → n ≤ c.long → On k (spot_at c n) → cells_on k (first_cells c (n + 1)) ≡ cells_on k (first_cells c n) + 1
   unfolding first_cells
   cells_one n l o =

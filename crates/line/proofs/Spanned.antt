@@ -1,6 +1,5 @@
 -- The rectangle of a line: that between its first cell on the sheet and its last.
 use Rattle.std.proofs.Common.{◌≡◌, ℕ, zero, suc, ◌+◌, ◌-◌, ◌*◌, ◌<◌, ◌≤◌, min, max, Bool, true, false, cond, T, [], ◌∷◌, pos, subst, inl, inr, mul-le-mul_right, arith}
-use Rattle.laws.specs.Below.{any}
 use Rattle.laws.proofs.Below.{any→, any_at}
 use Rattle.laws.proofs.Products.{lt_or_ge, mul_lt_back}
 use Rattle.laws.proofs.Tests.{is_true, is_false, from_true}
@@ -19,7 +18,7 @@ use Rattle.sheet.proofs.Marks.{spot→}
 use Rattle.line.specs.Rule.{rise}
 use Rattle.line.specs.Inner.Course.{stepped, spot_at, first_cells}
 use Rattle.line.specs.Inner.Span.{steps_x, On, Spans, spanning, told_cells}
-use Rattle.line.specs.declared.Course.{Course}
+use Rattle.line.specs.declared.Path.{Path}
 use Rattle.line.proofs.Marked.{is_on}
 use Rattle.line.proofs.Rise.{rise_low, rise_high, rise_none}
 
@@ -48,7 +47,7 @@ pub record Between (p q r : Spot) : Type 0 where
   pub least_y : p.y ≤ q.y
   pub most_y : q.y ≤ r.y
 
-pub spot_between : (c : Course) (i k j : ℕ) → i ≤ k → k ≤ j → Between (spot_at c i) (spot_at c k) (spot_at c j)
+pub spot_between : (c : Path) (i k j : ℕ) → i ≤ k → k ≤ j → Between (spot_at c i) (spot_at c k) (spot_at c j)
 unfolding spot_at
 spot_between c i k j a b =
     let u = steps_up c.steep c.long c.short i k a in
@@ -61,19 +60,12 @@ pub spanning_turned : (p q : Spot) → spanning p q ≡ spanning q p
 unfolding spanning
 spanning_turned p q = rectangle_is _ _ (omega arith) (omega arith) (omega arith) (omega arith)
 
--- the rectangle by its sides
-pub spanning_by : (p q : Spot) (l t r b : ℕ) → l ≡ min p.x q.x → t ≡ min p.y q.y → r ≡ max p.x q.x → b ≡ max p.y q.y
-    → record { left = l - 65536; top = t - 65536; right = r - 65535; bottom = b - 65535 } ≡ spanning p q
-unfolding spanning
-spanning_by p q l t r b el et er eb =
-    λ i. record { left = el i - 65536; top = et i - 65536; right = er i - 65535; bottom = eb i - 65535 }
-
 -- what is told, by its parts
 pub told_cells_lem : (k : Shape) (f : Cell → Bool) (n : ℕ) (r : Rectangle) → n ≡ cells_on k f → r ≡ box_of k f → with_box (done (pos n ∷ [])) r ≡ told_cells k f
 told_cells_lem k f n r e g = λ i. with_box (done (pos (e i) ∷ [])) (g i)
 
 -- of a line with no cell on the sheet
-pub range_none : (k : Shape) (c : Course) (first past : ℕ) → past ≤ first → Spans k c first past → box_of k (first_cells c (c.long + 1)) ≡ nothing
+pub range_none : (k : Shape) (c : Path) (first past : ℕ) → past ≤ first → Spans k c first past → box_of k (first_cells c (c.long + 1)) ≡ nothing
 unfolding first_cells
 range_none k c first past l s =
     box_none k (first_cells c (c.long + 1)) (λ x y a b.
@@ -86,7 +78,7 @@ range_none k c first past l s =
       | inr g ↦ s.after f.at (omega (arith, f.below)) (omega arith) o
     ]))
 
-module _ (k : Shape) (w : k.width ≤ 4096) (h : k.height ≤ 4096) (c : Course) where
+module _ (k : Shape) (w : k.width ≤ 4096) (h : k.height ≤ 4096) (c : Path) where
   -- a spot on the sheet is one of the cells
   spot_set : (n : ℕ) → n ≤ c.long → On k (spot_at c n) → Set k (first_cells c (c.long + 1)) ((spot_at c n).x - 65536) ((spot_at c n).y - 65536)
   unfolding first_cells

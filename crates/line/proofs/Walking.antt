@@ -10,12 +10,12 @@ use Rattle.sheet.proofs.Paint.{paint_length}
 use Rattle.line.specs.Inner.Course.{spot_at, Runs, first_cells}
 use Rattle.line.specs.Inner.Fixed.{Climbs}
 use Rattle.line.specs.Inner.Span.{On, Spans, byte_of, alone_by, both_by}
-use Rattle.line.specs.declared.Course.{Course}
+use Rattle.line.specs.declared.Path.{Path}
 use Rattle.line.proofs.Fixed.{climbs_on, rise_next}
 use Rattle.line.proofs.Hops.{byte_hop}
 use Rattle.line.proofs.Marked.{same_cells, paint_more, paint_before, paint_after, cells_range}
 
-pub record Walking (k : Shape) (ink : ℕ) (c : Course) (first past f : ℕ) (sheet₀ sheet : List ℕ) (part at n : ℕ) : Type 0 where
+pub record Walking (k : Shape) (ink : ℕ) (c : Path) (first past f : ℕ) (sheet₀ sheet : List ℕ) (part at n : ℕ) : Type 0 where
   pub from : first ≤ n
   pub low : n ≤ past
   pub climbs : Climbs c.long c.short n part f
@@ -24,12 +24,12 @@ pub record Walking (k : Shape) (ink : ℕ) (c : Course) (first past f : ℕ) (sh
   pub kept : length sheet ≡ bytes k
 
 -- a spot on the sheet is one of its bytes
-on_below : (k : Shape) → Disjoint k → (c : Course) (n : ℕ) → On k (spot_at c n) → byte_of k (spot_at c n) < bytes k
+on_below : (k : Shape) → Disjoint k → (c : Path) (n : ℕ) → On k (spot_at c n) → byte_of k (spot_at c n) < bytes k
 unfolding place
 on_below k w c n o =
     place_below k ((spot_at c n).x - 65536) ((spot_at c n).y - 65536) (omega (arith, o.left, o.right)) (omega (arith, o.top, o.bottom))
 
-module _ (k : Shape) (ink : ℕ) (c : Course) (first past f : ℕ) (range : Spans k c first past) (more : first < past) where
+module _ (k : Shape) (ink : ℕ) (c : Path) (first past f : ℕ) (range : Spans k c first past) (more : first < past) where
   pub begins : (sheet : List ℕ) (part at : ℕ) → Sheet k sheet → Climbs c.long c.short first part f → at ≡ byte_of k (spot_at c first)
       → Walking k ink c first past f sheet sheet part at first
   begins sheet part at z e h =
@@ -76,7 +76,7 @@ module _ (k : Shape) (ink : ℕ) (c : Course) (first past f : ℕ) (range : Span
         }
 
 -- how many cells are on the sheet, and what is drawn where there is none
-module _ (k : Shape) (disjoint : Disjoint k) (c : Course) (r : Runs c) (first past : ℕ) (range : Spans k c first past) where
+module _ (k : Shape) (disjoint : Disjoint k) (c : Path) (r : Runs c) (first past : ℕ) (range : Spans k c first past) where
   pub counted : first < past → past - first ≡ cells_on k (first_cells c (c.long + 1))
   counted p =
       let e : first + (past - first) ≡ past = omega arith in

@@ -11,9 +11,9 @@ use Rattle.sheet.specs.declared.Spot.{Spot}
 use Rattle.sheet.proofs.Marks.{inked_paints}
 use Rattle.sheet.proofs.Paint.{paint_as, paint_then}
 use Rattle.line.specs.Rule.{longer, shorter, rise}
-use Rattle.line.specs.Inner.Course.{gap, stepped, spot_at, lesser_spot, course_from, course_between, Runs, first_cells}
+use Rattle.line.specs.Inner.Course.{gap, stepped, spot_at, lesser_spot, path_from, path_between, Runs, first_cells}
 use Rattle.line.specs.Inner.Span.{steps_x, steps_y, On, Spans, spanning}
-use Rattle.line.specs.declared.Course.{Course}
+use Rattle.line.specs.declared.Path.{Path}
 use Rattle.line.proofs.Bridge.{shorter_le, lesser_y, not_lesser_y}
 use Rattle.line.proofs.Rise.{rise_start, rise_short, rise_end}
 use Rattle.line.proofs.Spanned.{range_box, spanning_turned}
@@ -38,7 +38,7 @@ between_high : (up : Bool) (m most i k j : ℕ) → (i ≤ k) × (k ≤ j) → s
 between_high true m most i k j b p q = omega arith
 between_high false m most i k j b p q = omega arith
 
-whole : (k : Shape) (c : Course) → Runs c → On k (spot_at c 0) → On k (spot_at c c.long) → Spans k c 0 (c.long + 1)
+whole : (k : Shape) (c : Path) → Runs c → On k (spot_at c 0) → On k (spot_at c c.long) → Spans k c 0 (c.long + 1)
 unfolding spot_at
 whole k c r a b =
     record {
@@ -81,7 +81,7 @@ stepped_to m n = by (leb m n) refl
     by false e = omega (arith, leb-false m n e)
 
 module _ (p q : Spot) where
-  first_spot : spot_at (course_from p q) 0 ≡ p
+  first_spot : spot_at (path_from p q) 0 ≡ p
   unfolding spot_at
   first_spot =
       let w = gap p.x q.x in
@@ -89,7 +89,7 @@ module _ (p q : Spot) where
       let none = rise_start (longer w t) (shorter w t) in
       λ i. record { x = stepped_none (leb p.x q.x) p.x _ (no_steps (ltb w t) _ 0 none refl) i; y = stepped_none true p.y _ (no_steps (ltb w t) 0 _ refl none) i }
 
-  last_spot : p.y ≤ q.y → spot_at (course_from p q) (course_from p q).long ≡ q
+  last_spot : p.y ≤ q.y → spot_at (path_from p q) (path_from p q).long ≡ q
   unfolding spot_at
   last_spot h =
       let s = steps_end (gap p.x q.x) (gap p.y q.y) in
@@ -99,11 +99,11 @@ module _ (p q : Spot) where
       λ i. record { x = ex i; y = ey i }
 
 -- so one whose ends are on the sheet is on it whole
-pub course_whole : (k : Shape) (c : Course) (p q : Spot) → c ≡ course_between p q → Runs c → On k p → On k q → Spans k c 0 (c.long + 1)
-unfolding course_between
+pub course_whole : (k : Shape) (c : Path) (p q : Spot) → c ≡ path_between p q → Runs c → On k p → On k q → Spans k c 0 (c.long + 1)
+unfolding path_between
 course_whole k c p q e r a b = whole k c r at_ends.0 at_ends.1
   where
-    either : (t : Bool) → lesser_spot p q ≡ t → let d = cond t (course_from p q) (course_from q p) in On k (spot_at d 0) × On k (spot_at d d.long)
+    either : (t : Bool) → lesser_spot p q ≡ t → let d = cond t (path_from p q) (path_from q p) in On k (spot_at d 0) × On k (spot_at d d.long)
     either true f = (subst (On k) (sym (first_spot p q)) a, subst (On k) (sym (last_spot p q (lesser_y p q f))) b)
     either false f = (subst (On k) (sym (first_spot q p)) b, subst (On k) (sym (last_spot q p (not_lesser_y p q f))) a)
 
@@ -111,9 +111,9 @@ course_whole k c p q e r a b = whole k c r at_ends.0 at_ends.1
     at_ends = rw e (either (lesser_spot p q) refl)
 
 -- and its rectangle is that between them
-pub whole_box : (k : Shape) → k.width ≤ 4096 → k.height ≤ 4096 → (c : Course) (p q : Spot) → c ≡ course_between p q → Runs c → On k p → On k q
+pub whole_box : (k : Shape) → k.width ≤ 4096 → k.height ≤ 4096 → (c : Path) (p q : Spot) → c ≡ path_between p q → Runs c → On k p → On k q
     → box_of k (first_cells c (c.long + 1)) ≡ spanning p q
-unfolding course_between
+unfolding path_between
 whole_box k w h c p q e r a b =
     range_box k w h c 0 (c.long + 1) (omega arith) (course_whole k c p q e r a b)
     ∙ ap (λ (n : ℕ). spanning (spot_at c 0) (spot_at c n)) (last c.long)
@@ -123,12 +123,12 @@ whole_box k w h c p q e r a b =
     last : (n : ℕ) → n + 1 - 1 ≡ n
     last n = omega arith
 
-    either : (t : Bool) → lesser_spot p q ≡ t → let d = cond t (course_from p q) (course_from q p) in spanning (spot_at d 0) (spot_at d d.long) ≡ spanning p q
+    either : (t : Bool) → lesser_spot p q ≡ t → let d = cond t (path_from p q) (path_from q p) in spanning (spot_at d 0) (spot_at d d.long) ≡ spanning p q
     either true f = ap₂ spanning (first_spot p q) (last_spot p q (lesser_y p q f))
     either false f = ap₂ spanning (first_spot q p) (last_spot q p (not_lesser_y p q f)) ∙ spanning_turned q p
 
 -- the cells of a line of one or two
-end_cells : (c : Course) → c.long ≤ 1 → (d : Cell)
+end_cells : (c : Path) → c.long ≤ 1 → (d : Cell)
     → first_cells c (c.long + 1) d ≡ (is_cell (unmoved_cell (spot_at c 0)) d || is_cell (unmoved_cell (spot_at c c.long)) d)
 unfolding first_cells any
 end_cells c l d = by (λ (i : ℕ). is_cell (unmoved_cell (spot_at c i)) d) c.long l
@@ -138,7 +138,7 @@ end_cells c l d = by (λ (i : ℕ). is_cell (unmoved_cell (spot_at c i)) d) c.lo
     by hit (suc zero) m = refl
     by hit (suc (suc n)) m = absurd (omega arith)
 
-pub ends_inked : (k : Shape) (ink : ℕ) (c : Course) → Disjoint k → c.long ≤ 1 → (p q : Spot) → p ≡ spot_at c 0 → q ≡ spot_at c c.long
+pub ends_inked : (k : Shape) (ink : ℕ) (c : Path) → Disjoint k → c.long ≤ 1 → (p q : Spot) → p ≡ spot_at c 0 → q ≡ spot_at c c.long
     → (s : List ℕ) → inked_at k ink (unmoved_cell q) (inked_at k ink (unmoved_cell p) s) ≡ paint k ink (first_cells c (c.long + 1)) s
 ends_inked k ink c w l p q e f s =
     inked_paints k ink (unmoved_cell q) (inked_at k ink (unmoved_cell p) s) w

@@ -11,7 +11,7 @@ use Rattle.sheet.specs.declared.Spot.{Spot}
 use Rattle.sheet.proofs.Limits.{LiftedCell, limit_low, limit_high, limit_in, limits_x, limits_y, lowered_cell_lem}
 use Rattle.line.specs.Rule.{lesser, long, steep, rise, toward, from_lesser, nth}
 use Rattle.line.specs.Listing.{listed}
-use Rattle.line.specs.Inner.Course.{spot_at, lesser_spot, course_between}
+use Rattle.line.specs.Inner.Course.{spot_at, lesser_spot, path_between}
 use Rattle.line.proofs.Bridge.{lesser_is, course_cell_lem, course_long, long_limit}
 use Rattle.line.proofs.EitherEnd.{long_sym}
 use Rattle.line.proofs.Rise.{rise_short, from_either}
@@ -63,10 +63,10 @@ nth_in a b n e f l = by (lesser a b)
 
 -- the nth cell of the listing, by the course of the two lifted ends
 pub listed_cell : (a b : Cell) (p q : Spot) → within_limits a ≡ true → within_limits b ≡ true → LiftedCell a p → LiftedCell b q → (n : ℕ) → n ≤ long a b
-    → lowered_cell (spot_at (course_between p q) (cond (lesser_spot p q) n ((course_between p q).long - n))) ≡ listed a b n
+    → lowered_cell (spot_at (path_between p q) (cond (lesser_spot p q) n ((path_between p q).long - n))) ≡ listed a b n
 unfolding listed
 listed_cell a b p q e f P Q n l =
     let m = cond (lesser a b) n (long a b - n) in
     let h : m ≤ long a b = from_either (lesser a b) n (long a b) l in
-    ap (λ (k : ℕ). lowered_cell (spot_at (course_between p q) k)) (λ i. cond (lesser_is a b p q P Q i) n (course_long a b p q P Q i - n))
-    ∙ lowered_cell_lem (spot_at (course_between p q) m) (nth a b m) (course_cell_lem a b p q P Q m (omega (arith, long_limit a b p q P Q))) (nth_in a b m e f h)
+    ap (λ (k : ℕ). lowered_cell (spot_at (path_between p q) k)) (λ i. cond (lesser_is a b p q P Q i) n (course_long a b p q P Q i - n))
+    ∙ lowered_cell_lem (spot_at (path_between p q) m) (nth a b m) (course_cell_lem a b p q P Q m (omega (arith, long_limit a b p q P Q))) (nth_in a b m e f h)

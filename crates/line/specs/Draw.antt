@@ -5,7 +5,7 @@ use Rattle.sheet.specs.Reply.{Answer, done, unless}
 use Rattle.sheet.specs.Drawing.{Drawing, only, if_sheet}
 use Rattle.sheet.specs.declared.Cell.{Cell}
 use Rattle.sheet.specs.declared.Shape.{Shape}
-use Rattle.sheet.specs.declared.Refusal.TheVariants.{Coordinate}
+use Rattle.sheet.specs.declared.refusal.Refusal.TheVariants.{Coordinate}
 use Rattle.line.specs.Rule.{long, on_line}
 
 -- 1, 15, 2, else 0 with the number of the line's cells on the sheet, for a slice of n bytes

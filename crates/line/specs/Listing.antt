@@ -3,7 +3,7 @@ use Rattle.std.specs.Prelude.{◌≡◌, ℕ, zero, suc, ◌+◌, ◌-◌, cond,
 use Rattle.sheet.specs.Sheet.{within_limits}
 use Rattle.sheet.specs.Reply.{Answer, done, unless, settled}
 use Rattle.sheet.specs.declared.Cell.{Cell}
-use Rattle.sheet.specs.declared.Refusal.TheVariants.{Coordinate, Room}
+use Rattle.sheet.specs.declared.refusal.Refusal.TheVariants.{Coordinate, Room}
 use Rattle.line.specs.Rule.{lesser, long, nth}
 
 -- the nth cell counted from the first named end

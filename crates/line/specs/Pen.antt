@@ -1,38 +1,27 @@
 -- Document 01, "Lines": the pen.
-use Rattle.std.specs.Prelude.{◌+◌, Bool, cond, ◌&&◌, List, [], ◌∷◌, ◌++◌, ℤ, pos, nat_le}
+use Rattle.std.specs.Prelude.{◌+◌, Bool, cond, ◌&&◌, List, [], ◌∷◌, ◌++◌, drop, ℤ, pos, nat_le, Option, Some, None}
 use Rattle.sheet.specs.Sheet.{within_limits}
-use Rattle.sheet.specs.Reply.{Answer, done, refuse, unless}
+use Rattle.sheet.specs.Reply.{Answer, done, unless}
 use Rattle.sheet.specs.Figure.{cell_values}
 use Rattle.sheet.specs.declared.Cell.{Cell}
-use Rattle.sheet.specs.declared.Refusal.TheVariants.{Coordinate}
+use Rattle.sheet.specs.declared.refusal.Refusal.TheVariants.{Coordinate}
 use Rattle.line.specs.Rule.{long}
-use Rattle.line.specs.Listing.{listed}
+use Rattle.line.specs.Listing.{listed, listing}
 use Rattle.line.specs.declared.pen.Pen.{Pen}
-use Rattle.line.specs.declared.pen.Begun.{Begun}
-use Rattle.line.specs.declared.pen.Begun.TheVariants as begun
-use Rattle.line.specs.declared.pen.Step.{Step}
-use Rattle.line.specs.declared.pen.Step.TheVariants as step
-use Rattle.line.specs.declared.pen.Asked.{Asked}
-use Rattle.line.specs.declared.pen.Asked.TheVariants as asked
 
 -- the values that tell a pen
 abbrev pub pen_values : Pen → List ℤ
 pen_values p = cell_values p.from ++ cell_values p.to ++ pos p.told ∷ []
 
--- a beginning: 0 with the pen, or a refusal
-abbrev pub told_begun : Begun → Answer
-told_begun (begun.Pen p) = done (pen_values p)
-told_begun (begun.Refused r) = refuse r
+-- what is told of a beginning: 0 with the pen; of an asking 0 with the cell and the pen moved on; of a lent pen's 0 with the cell
+abbrev pub pen_answer : Pen → Answer
+pen_answer p = done (pen_values p)
 
--- an asking: 0 with the cell and the pen moved on; "finished" is 0 alone
-abbrev pub told_step : Step → Answer
-told_step (step.Cell c p) = done (cell_values c ++ pen_values p)
-told_step step.Finished = done []
+abbrev pub step_answer : Cell × Pen → Answer
+step_answer (c, p) = done (cell_values c ++ pen_values p)
 
--- an asking of a lent pen: 0 with the cell; "finished" is 0 alone
-abbrev pub told_asked : Asked → Answer
-told_asked (asked.Cell c) = done (cell_values c)
-told_asked asked.Finished = done []
+abbrev pub cell_answer : Cell → Answer
+cell_answer c = done (cell_values c)
 
 -- A pen is begun from two ends and refuses as number 2.
 abbrev pub fresh : Cell → Cell → Pen
@@ -65,6 +54,10 @@ unfoldable pub left : Pen → Pen
 left p = cond (has_cell p) (moved_on p) p
 
 -- the pen after a step, which was p before
-abbrev pub kept_of : Step → Pen → Pen
-kept_of (step.Cell c q) p = q
-kept_of step.Finished p = p
+abbrev pub kept_of : Option (Cell × Pen) → Pen → Pen
+kept_of (Some (c, q)) p = q
+kept_of None p = p
+
+-- the cells that it has left: those of the listing after the ones that it has answered
+unfoldable pub cells_left : Pen → List Cell
+cells_left p = cond (within_limits p.from && within_limits p.to) (drop p.told (listing p.from p.to)) []

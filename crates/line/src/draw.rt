@@ -1,18 +1,19 @@
 // Drawing a line: the range of its cells that are on the sheet is worked out once, and walked with no test for each cell.
 ghost use Rattle.std.specs.Prelude.{◌≡◌, ◌+◌, ◌-◌, ◌/◌, ◌%◌, ◌<◌, ◌≤◌, cond, ◌&&◌, length, if◌then◌else◌};
 ghost use Rattle.sheet.specs.Sheet.{on_sheet, within_limits, paint};
-ghost use Rattle.sheet.specs.Reply.{told_drawn};
+ghost use Rattle.sheet.specs.Reply.{told, drawn_answer};
 ghost use Rattle.sheet.specs.Drawing.{Draws};
-ghost use Rattle.sheet.specs.Inner.{Sheet, Disjoint, unmoved_cell};
+ghost use Rattle.sheet.specs.Inner.{unmoved_cell};
+ghost use Rattle.sheet.specs.Lent.{Inks};
 ghost use Rattle.line.specs.Rule.{rise, on_line};
 ghost use Rattle.line.specs.Draw.{line_drawing, short_on};
-ghost use Rattle.line.specs.Inner.Course.{spot_at, Runs, first_cells};
+ghost use Rattle.line.specs.Inner.Course.{spot_at, first_cells};
 ghost use Rattle.line.specs.Inner.Fixed.{gone, Climbs};
 ghost use Rattle.line.specs.Inner.Span.{On, Spans, byte_of, alone_by, both_by, spanning, told_cells};
 
 use crate::range::{first_n, past_n};
-use crate::{Course, course_of, gradient_of, larger, smaller, spot_of};
-use sheet::{Cell, Drawn, Rectangle, Refusal, Reply, Shape, Spot};
+use crate::{Course, course_of, gradient_of, spot_of};
+use sheet::{Cell, Drawn, Rectangle, Refusal, Shape, Sheet, Spot};
 
 // What n steps of f come to in parts of 2^32, with a half and a little more: the whole part is the nth cell's steps along the shorter extent.
 fn tally_at(l: u32, f: u32, n: u32) -> u64
@@ -42,18 +43,17 @@ fn are_on(shape: Shape, a: Spot, b: Spot) -> bool
 {
     let right = 65536 + shape.width;
     let bottom = 65536 + shape.height;
-    let across = (65536 <= smaller(a.x, b.x)) & (larger(a.x, b.x) < right);
-    let down = (65536 <= smaller(a.y, b.y)) & (larger(a.y, b.y) < bottom);
+    let across = (65536 <= a.x.min(b.x)) & (a.x.max(b.x) < right);
+    let down = (65536 <= a.y.min(b.y)) & (a.y.max(b.y) < bottom);
     across & down
 }
 
 // The byte of the nth cell, which is on the sheet.
-fn byte_at(shape: Shape, course: Course, n: u32, q: u32) -> usize
-    requires pitch_bound { (shape.pitch ≤ 8192) × (shape.width ≤ 4096) × (shape.height ≤ 4096) × Runs course }
-    requires n_le_long { (n ≤ course.long) × (q ≡ rise course.long course.short n) × On shape (spot_at course n) }
-    ensures { result ≡ byte_of shape (spot_at course n) }
+fn byte_at(sheet: &Sheet<'_>, course: Course, n: u32, q: u32) -> usize
+    requires { (n ≤ course.path.long) × (q ≡ rise course.path.long course.path.short n) × On sheet.now.shape (spot_at course.path n) }
+    ensures { result ≡ byte_of sheet.now.shape (spot_at course.path n) }
 {
-    let pitch = shape.pitch;
+    let pitch = sheet.shape.pitch;
     let spot = spot_of(course, n, q);
     (spot.y - 65536) as usize * pitch as usize + (spot.x - 65536) as usize
 }
@@ -79,25 +79,19 @@ fn both(right: bool, pitch: u32) -> usize
     }
 }
 
-fn chosen_step(first: bool, a: usize, b: usize) -> usize
-    ensures { result ≡ (if first then a else b) }
-{
-    if first { a } else { b }
-}
-
 // The byte's place after a turn: a step along both extents, or along the longer alone.
 fn hop(shape: Shape, course: Course, at: usize, across: bool) -> usize
     requires { 1 ≤ shape.pitch }
-    ensures { result ≡ (at + cond across (both_by course.right shape.pitch)
-        (alone_by course.right course.steep shape.pitch)) % 18446744073709551616 }
+    ensures { result ≡ (at + cond across (both_by course.path.right shape.pitch)
+        (alone_by course.path.right course.path.steep shape.pitch)) % 18446744073709551616 }
 {
-    let two = both(course.right, shape.pitch);
-    let one = alone(course.right, course.steep, shape.pitch);
-    std::num::wrapping_add_usize(at, chosen_step(across, two, one))
+    let two = both(course.path.right, shape.pitch);
+    let one = alone(course.path.right, course.path.steep, shape.pitch);
+    at.wrapping_add(if across { two } else { one })
 }
 
 // What a walk has in hand, in parts of 2^32, and what each turn adds; where the sum wraps, the step is along both extents.
-#[derive(Clone, Copy)]
+#[derive(Clone, Copy, Debug, PartialEq, Eq, Hash)]
 struct Slope {
     start: u32,
     by: u32,
@@ -127,8 +121,7 @@ fn short_slope(l: u32, s: u32) -> Slope
 
 // Inks the cells first, .., past - 1 of a line, which are those on the sheet, by its slope and from the byte of the first.
 fn walk(
-    sheet: &mut [u8],
-    shape: Shape,
+    sheet: &mut Sheet<'_>,
     ink: u8,
     course: Course,
     first: u32,
@@ -136,115 +129,95 @@ fn walk(
     slope: Slope,
     place: usize,
 )
-    requires sheet { Sheet shape sheet.old × Runs course }
-    requires first_lt_past { (first < past) × Spans shape course first past
-        × Climbs course.long course.short first slope.start slope.by × (place ≡ byte_of shape (spot_at course first)) }
-    ensures { sheet.new ≡ paint shape ink (first_cells course (course.long + 1)) sheet.old }
+    requires first_lt_past { (first < past) × Spans sheet.old.shape course.path first past
+        × Climbs course.path.long course.path.short first slope.start slope.by × (place ≡ byte_of sheet.old.shape (spot_at course.path first)) }
+    ensures { Inks ink (first_cells course.path (course.path.long + 1)) sheet.old sheet.new }
 {
+    let shape = sheet.shape;
+    let cells = &mut *sheet.cells;
     let f = slope.by;
     let mut p = slope.start;
     let mut at = place;
-    let mut n = first;
-    while n < past {
-        sheet[at] = ink;
-        n += 1;
-        let next = std::num::wrapping_add_u32(p, f);
+    for _n in first..past {
+        cells[at] = ink;
+        let next = p.wrapping_add(f);
         at = hop(shape, course, at, next < p);
         p = next;
     }
 }
 
-// The rectangle from a spot on the sheet to one no higher.
-fn down_to(first: Spot, last: Spot) -> Rectangle
-    requires le_x { (65536 ≤ first.x) × (65536 ≤ last.x) × (65536 ≤ first.y) × (first.y ≤ last.y) × (last.y ≤ 131072) }
-    requires x_bound { (first.x ≤ 131072) × (last.x ≤ 131072) }
-    ensures { result ≡ spanning first last }
-{
-    Rectangle {
-        left: smaller(first.x, last.x) - 65536,
-        top: first.y - 65536,
-        right: larger(first.x, last.x) - 65535,
-        bottom: last.y - 65535,
-    }
-}
-
 // Inks the cells first, .., past - 1 of a line that leaves the sheet; the rectangle from the first to the last.
-fn part_line(
-    sheet: &mut [u8],
-    shape: Shape,
-    ink: u8,
-    course: Course,
-    first: u32,
-    past: u32,
-) -> Rectangle
-    requires sheet { Sheet shape sheet.old × Runs course }
-    requires first_lt_past { (first < past) × Spans shape course first past }
-    ensures sheet_after { sheet.new ≡ paint shape ink (first_cells course (course.long + 1)) sheet.old }
-    ensures value { result ≡ spanning (spot_at course first) (spot_at course (past - 1)) }
+fn part_line(sheet: &mut Sheet<'_>, ink: u8, course: Course, first: u32, past: u32) -> Rectangle
+    requires first_lt_past { (first < past) × Spans sheet.old.shape course.path first past }
+    ensures sheet_after { Inks ink (first_cells course.path (course.path.long + 1)) sheet.old sheet.new }
+    ensures value { result ≡ spanning (spot_at course.path first) (spot_at course.path (past - 1)) }
 {
-    let by = gradient_of(course.long, course.short);
-    let t = tally_at(course.long, by, first);
+    let by = gradient_of(course.path.long, course.path.short);
+    let t = tally_at(course.path.long, by, first);
     let q = whole(t);
-    let at = byte_at(shape, course, first, q);
+    let at = byte_at(sheet, course, first, q);
     let slope = Slope { start: part(t), by };
-    walk(sheet, shape, ink, course, first, past, slope, at);
+    walk(sheet, ink, course, first, past, slope, at);
     let last = past - 1;
-    let end = spot_of(course, last, whole(tally_at(course.long, by, last)));
-    down_to(spot_of(course, first, q), end)
+    let end = spot_of(course, last, whole(tally_at(course.path.long, by, last)));
+    between(spot_of(course, first, q), end)
 }
 
 // Inks a line of one cell or two: they are its ends.
-fn ends(sheet: &mut [u8], shape: Shape, ink: u8, course: Course)
-    requires { Disjoint shape × Runs course × (course.long ≤ 1) }
-    ensures { sheet.new ≡ paint shape ink (first_cells course (course.long + 1)) sheet.old }
+fn ends(sheet: &mut Sheet<'_>, ink: u8, course: Course)
+    requires { course.path.long ≤ 1 }
+    ensures { Inks ink (first_cells course.path (course.path.long + 1)) sheet.old sheet.new }
 {
     let first = spot_of(course, 0, 0);
-    let last = spot_of(course, course.long, course.short);
-    sheet::ink_at(sheet, shape, ink, first);
-    sheet::ink_at(sheet, shape, ink, last);
+    let last = spot_of(course, course.path.long, course.path.short);
+    sheet::ink_at(sheet.cells, sheet.shape, ink, first);
+    sheet::ink_at(sheet.cells, sheet.shape, ink, last);
 }
 
 // Inks a line that is wholly on the sheet. The first byte does not wait for the slope.
-fn whole_line(sheet: &mut [u8], shape: Shape, ink: u8, course: Course)
-    requires { Sheet shape sheet.old × Runs course × Spans shape course 0 (course.long + 1) }
-    ensures { sheet.new ≡ paint shape ink (first_cells course (course.long + 1)) sheet.old }
+fn whole_line(sheet: &mut Sheet<'_>, ink: u8, course: Course)
+    requires { Spans sheet.old.shape course.path 0 (course.path.long + 1) }
+    ensures { Inks ink (first_cells course.path (course.path.long + 1)) sheet.old sheet.new }
 {
-    let long = course.long;
-    let short = course.short;
+    let long = course.path.long;
+    let short = course.path.short;
     if long < 2 {
-        ends(sheet, shape, ink, course);
+        ends(sheet, ink, course);
         return;
     }
     let past = long + 1;
-    let at = byte_at(shape, course, 0, 0);
+    let at = byte_at(sheet, course, 0, 0);
     if long < 128 {
         let slope = short_slope(long, short);
-        walk(sheet, shape, ink, course, 0, past, slope, at);
+        walk(sheet, ink, course, 0, past, slope, at);
         return;
     }
     let slope = slope_of(long, short);
-    walk(sheet, shape, ink, course, 0, past, slope, at);
+    walk(sheet, ink, course, 0, past, slope, at);
 }
 
 // Inks the cells of a line that are on the sheet; how many they are, and their rectangle.
-fn run(sheet: &mut [u8], shape: Shape, ink: u8, course: Course) -> Drawn
-    requires { Sheet shape sheet.old × Runs course }
-    ensures sheet_after { sheet.new ≡ paint shape ink (first_cells course (course.long + 1)) sheet.old }
-    ensures result_value { told_drawn result ≡ told_cells shape (first_cells course (course.long + 1)) }
+fn run(sheet: &mut Sheet<'_>, ink: u8, course: Course) -> Drawn
+    ensures sheet_after { Inks ink (first_cells course.path (course.path.long + 1)) sheet.old sheet.new }
+    ensures result_value { drawn_answer result ≡ told_cells sheet.old.shape (first_cells course.path (course.path.long + 1)) }
 {
-    let first = first_n(shape, course);
-    let past = past_n(shape, course);
+    let first = first_n(sheet, course);
+    let past = past_n(sheet, course);
     if past <= first {
-        return sheet::undrawn(Reply::Counted(0));
+        return Drawn {
+            count: Some(0),
+            rectangle: Rectangle::none(),
+        };
     }
-    let rectangle = part_line(sheet, shape, ink, course, first, past);
+    let rectangle = part_line(sheet, ink, course, first, past);
     Drawn {
-        reply: Reply::Counted((past - first) as usize),
+        count: Some((past - first) as usize),
         rectangle,
     }
 }
 
 // Whether a spot stands for a cell within the limits.
+#[tactic(auto, using(crate::proofs::Answers::spot_test))]
 fn is_moved(spot: Spot) -> bool
     ensures { result ≡ within_limits (unmoved_cell spot) }
 {
@@ -254,69 +227,90 @@ fn is_moved(spot: Spot) -> bool
 }
 
 // The rectangle between two spots on the sheet.
+#[tactic(auto, unfolding(crate::specs::Inner::Span::spanning))]
 fn between(a: Spot, b: Spot) -> Rectangle
     requires le_x { (65536 ≤ a.x) × (65536 ≤ a.y) × (65536 ≤ b.x) × (65536 ≤ b.y) }
     requires x_bound { (a.x ≤ 131072) × (a.y ≤ 131072) × (b.x ≤ 131072) × (b.y ≤ 131072) }
     ensures { result ≡ spanning a b }
 {
     Rectangle {
-        left: smaller(a.x, b.x) - 65536,
-        top: smaller(a.y, b.y) - 65536,
-        right: larger(a.x, b.x) - 65535,
-        bottom: larger(a.y, b.y) - 65535,
+        left: a.x.min(b.x) - 65536,
+        top: a.y.min(b.y) - 65536,
+        right: a.x.max(b.x) - 65535,
+        bottom: a.y.max(b.y) - 65535,
     }
 }
 
-// Draws the line between the cells that two spots stand for.
-pub fn draw_between(sheet: &mut [u8], shape: Shape, ink: u8, from: Spot, to: Spot) -> Drawn
+/// Draws the line between the cells that two spots stand for; the number of its cells on the sheet.
+pub fn draw_between(
+    sheet: &mut [u8],
+    shape: Shape,
+    ink: u8,
+    from: Spot,
+    to: Spot,
+) -> Result<Drawn, Refusal>
     ensures { Draws (line_drawing shape ink (unmoved_cell from) (unmoved_cell to))
-        sheet.old (told_drawn result) sheet.new }
+        sheet.old (told drawn_answer result) sheet.new }
 {
-    let tested = sheet::check(shape, sheet.len());
-    if !tested.is_done() {
-        return sheet::undrawn(tested);
-    }
+    shape.check(sheet.len())?;
     if are_on(shape, from, to) {
         let course = course_of(from, to);
-        whole_line(sheet, shape, ink, course);
-        return Drawn {
-            reply: Reply::Counted(course.long as usize + 1),
-            rectangle: between(from, to),
+        let mut sheet = Sheet {
+            cells: sheet,
+            shape,
         };
+        whole_line(&mut sheet, ink, course);
+        return Ok(Drawn {
+            count: Some(course.path.long as usize + 1),
+            rectangle: between(from, to),
+        });
     }
     if !(is_moved(from) & is_moved(to)) {
-        return sheet::undrawn(Reply::Refused(Refusal::Coordinate));
+        return Err(Refusal::Coordinate);
     }
-    run(sheet, shape, ink, course_of(from, to))
+    let mut sheet = Sheet {
+        cells: sheet,
+        shape,
+    };
+    Ok(run(&mut sheet, ink, course_of(from, to)))
 }
 
-// Draws the line between two spots on the sheet, where it has 2 to 128 cells, as most pieces of a curve have; whether it did.
+/// Draws the line between two spots on the sheet, where it has 2 to 128 cells, as most pieces of a curve have; whether it did.
 pub fn draw_short(sheet: &mut [u8], shape: Shape, ink: u8, from: Spot, to: Spot) -> bool
     ensures value { result ≡ short_on shape (unmoved_cell from) (unmoved_cell to) (length sheet.old) }
     ensures sheet_after { sheet.new
         ≡ (if result then paint shape ink (on_line (unmoved_cell from) (unmoved_cell to)) sheet.old else sheet.old) }
 {
-    let tested = sheet::check(shape, sheet.len());
-    if !tested.is_done() {
+    if shape.check(sheet.len()).is_err() {
         return false;
     }
     if !are_on(shape, from, to) {
         return false;
     }
     let course = course_of(from, to);
-    let long = course.long;
+    let long = course.path.long;
     if !((0 < long) & (long < 128)) {
         return false;
     }
-    let at = byte_at(shape, course, 0, 0);
-    let slope = short_slope(long, course.short);
-    walk(sheet, shape, ink, course, 0, long + 1, slope, at);
+    let mut sheet = Sheet {
+        cells: sheet,
+        shape,
+    };
+    let at = byte_at(&sheet, course, 0, 0);
+    let slope = short_slope(long, course.path.short);
+    walk(&mut sheet, ink, course, 0, long + 1, slope, at);
     true
 }
 
-// Draws the line from one end to the other.
-pub fn draw_line(sheet: &mut [u8], shape: Shape, ink: u8, from: Cell, to: Cell) -> Drawn
-    ensures { Draws (line_drawing shape ink from to) sheet.old (told_drawn result) sheet.new }
+/// Draws the line from one end to the other; the number of its cells on the sheet.
+pub fn draw_line(
+    sheet: &mut [u8],
+    shape: Shape,
+    ink: u8,
+    from: Cell,
+    to: Cell,
+) -> Result<Drawn, Refusal>
+    ensures { Draws (line_drawing shape ink from to) sheet.old (told drawn_answer result) sheet.new }
 {
     draw_between(
         sheet,

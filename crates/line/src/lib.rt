@@ -1,9 +1,9 @@
 // Lines: the drawing, the listing and the pen, all by one rule.
 #![tactic(auto)]
 
-ghost use Rattle.std.specs.Prelude.{◌≡◌, ◌+◌, ◌*◌, ◌≤◌, min, max, ◌&&◌, if◌then◌else◌};
+ghost use Rattle.std.specs.Prelude.{◌≡◌, ◌+◌, ◌*◌, ◌≤◌, ◌&&◌};
 ghost use Rattle.sheet.specs.Sheet.{within_limits};
-ghost use Rattle.line.specs.Inner.Course.{gap, stepped, spot_at, lesser_spot, course_between, Runs};
+ghost use Rattle.line.specs.Inner.Course.{stepped, spot_at, lesser_spot, path_between, IsMoved, Runs};
 ghost use Rattle.line.specs.Rule.{rise};
 ghost use Rattle.line.specs.Inner.Fixed.{gradient};
 
@@ -16,17 +16,24 @@ mod range;
 
 pub use draw::{draw_between, draw_line, draw_short};
 pub use listing::list_line;
-pub use pen::{Asked, Begun, Pen, Step, advance};
+pub use pen::{Pen, advance};
 
 // A line on the moved plane, from its lesser end: where it starts, whether it goes right, whether its longer extent is that of y, and both extents.
-#[derive(Clone, Copy)]
-struct Course {
+#[derive(Clone, Copy, Debug, PartialEq, Eq, Hash)]
+struct Path {
     x: u32,
     y: u32,
     right: bool,
     steep: bool,
     long: u32,
     short: u32,
+}
+
+// A path that starts within the limits, and whose extents are those of a line between two cells within them.
+#[derive(Clone, Copy, Debug, PartialEq, Eq, Hash)]
+struct Course {
+    path: Path,
+    ghost runs: { Runs path },
 }
 
 // Whether both ends are within the limits.
@@ -36,37 +43,12 @@ fn in_limits(from: Cell, to: Cell) -> bool
     sheet::in_limits(from) & sheet::in_limits(to)
 }
 
-// The one or the other; the smaller, the larger.
-fn chosen(first: bool, a: u32, b: u32) -> u32
-    ensures { result ≡ (if first then a else b) }
-{
-    if first { a } else { b }
-}
-
-fn smaller(a: u32, b: u32) -> u32
-    ensures { result ≡ min a b }
-{
-    if a < b { a } else { b }
-}
-
-fn larger(a: u32, b: u32) -> u32
-    ensures { result ≡ max a b }
-{
-    if a < b { b } else { a }
-}
-
 // k steps from m.
 fn stepped_by(up: bool, m: u32, k: u32) -> u32
     requires { (32768 ≤ m) × (m ≤ 131072) × (k ≤ 32768) }
     ensures { result ≡ stepped up m k }
 {
     if up { m + k } else { m - k }
-}
-
-fn gap_of(a: u32, b: u32) -> u32
-    ensures { result ≡ gap a b }
-{
-    larger(a, b) - smaller(a, b)
 }
 
 // What spots are ordered by: their rows, and in a row their columns.
@@ -83,37 +65,46 @@ fn is_lesser(a: Spot, b: Spot) -> bool
 }
 
 // The course of the line with these ends.
+#[tactic(auto, unfolding(crate::specs::Inner::Course::path_between))]
 fn course_of(a: Spot, b: Spot) -> Course
-    ensures { result ≡ course_between a b }
+    requires { IsMoved a × IsMoved b }
+    ensures { result.path ≡ path_between a b }
 {
     let first = is_lesser(a, b);
-    let x = chosen(first, a.x, b.x);
-    let wide = gap_of(a.x, b.x);
-    let tall = gap_of(a.y, b.y);
-    let steep = wide < tall;
+    let x = if first { a.x } else { b.x };
+    let end = if first { b.x } else { a.x };
+    // Not `abs_diff`: a caller has found the greater and the lesser of each already.
+    let wide = a.x.max(b.x) - a.x.min(b.x);
+    let tall = a.y.max(b.y) - a.y.min(b.y);
     Course {
-        x,
-        y: smaller(a.y, b.y),
-        right: x <= chosen(first, b.x, a.x),
-        steep,
-        long: chosen(steep, tall, wide),
-        short: chosen(steep, wide, tall),
+        path: Path {
+            x,
+            y: a.y.min(b.y),
+            right: x <= end,
+            steep: wide < tall,
+            long: wide.max(tall),
+            short: wide.min(tall),
+        },
     }
 }
 
 // The nth spot of a course, q steps along the shorter extent.
+#[tactic(auto, using(crate::proofs::Rise::rise_short), unfolding(crate::specs::Inner::Course::spot_at))]
 fn spot_of(course: Course, n: u32, q: u32) -> Spot
-    requires { Runs course × (n ≤ course.long) × (q ≡ rise course.long course.short n) }
-    ensures { result ≡ spot_at course n }
+    requires { (n ≤ course.path.long) × (q ≡ rise course.path.long course.path.short n) }
+    ensures { result ≡ spot_at course.path n }
 {
-    let steep = course.steep;
+    let steep = course.path.steep;
+    let across = if steep { q } else { n };
+    let down = if steep { n } else { q };
     Spot {
-        x: stepped_by(course.right, course.x, chosen(steep, q, n)),
-        y: course.y + chosen(steep, n, q),
+        x: stepped_by(course.path.right, course.path.x, across),
+        y: course.path.y + down,
     }
 }
 
 // The shorter extent over the longer, in parts of 2^32 (rounded down, and a little less, so that it fits).
+#[tactic(auto, unfolding(crate::specs::Inner::Fixed::gradient))]
 fn gradient_of(l: u32, s: u32) -> u32
     requires { (s ≤ l) × (l ≤ 32767) }
     ensures { result ≡ gradient l s }

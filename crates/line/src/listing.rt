@@ -1,29 +1,12 @@
 // Listing a line's cells into two lent lists: each coordinate is a running sum in parts of 2^32, from the first named end.
-ghost use Rattle.std.specs.Prelude.{◌≡◌, ◌+◌, ◌<◌, ◌≤◌, ◌&&◌, length, if◌then◌else◌, nat_le, slice_set};
-ghost use Rattle.sheet.specs.Reply.{told};
-ghost use Rattle.sheet.specs.Inner.{unmoved};
+ghost use Rattle.std.specs.Prelude.{◌≡◌, ◌+◌, ◌<◌, ◌≤◌, ◌&&◌, length, nat_le};
+ghost use Rattle.sheet.specs.Reply.{told, count_answer};
 ghost use Rattle.line.specs.Listing.{ListsInto};
-ghost use Rattle.line.specs.Inner.Course.{Runs};
 ghost use Rattle.line.specs.Inner.Fixed.{gone};
 ghost use Rattle.line.specs.Inner.Along.{over, reached, ith_along, Bounded, course_cell};
 
-use crate::{Course, chosen, course_of, gradient_of, in_limits, is_lesser};
-use sheet::{Cell, Refusal, Reply};
-
-// Stores the coordinate that m stands for.
-fn put(list: &mut [i32], at: usize, m: u32)
-    requires { (at < length list.old) × (m ≤ 131071) }
-    ensures { list.new ≡ slice_set list.old at (unmoved m) }
-{
-    let z = m as i32 - 65536;
-    list[at] = z;
-}
-
-fn chosen_parts(first: bool, a: u64, b: u64) -> u64
-    ensures { result ≡ (if first then a else b) }
-{
-    if first { a } else { b }
-}
+use crate::{Course, course_of, gradient_of, in_limits, is_lesser};
+use sheet::{Cell, Refusal};
 
 // The coordinate n steps of f from m.
 fn reached_at(up: bool, m: u32, l: u32, f: u64, n: u32) -> u64
@@ -44,37 +27,31 @@ fn list_along(list: &mut [i32], first: bool, up: bool, m: u32, l: u32, f: u64)
     requires { Bounded m l f × (l < length list.old) }
     ensures { list.new ≡ over (ith_along first up m l f) (l + 1) list.old }
 {
-    let cells = l as usize + 1;
-    let gains = chosen_parts(up == first, f, 0);
+    let gains = if up == first { f } else { 0 };
     let loses = f - gains;
-    let mut t = reached_at(up, m, l, f, chosen(first, 0, l));
-    let mut i: usize = 0;
-    while i < cells {
-        put(list, i, (t / 4294967296) as u32);
+    let mut t = reached_at(up, m, l, f, if first { 0 } else { l });
+    for i in 0..l as usize + 1 {
+        list[i] = (t / 4294967296) as i32 - 65536;
         t = t + gains - loses;
-        i += 1;
     }
 }
 
 // Lists the cells of a course from its lesser end, or from the other.
 fn list_course(xs: &mut [i32], ys: &mut [i32], course: Course, first: bool)
-    requires { Runs course × (course.long < length xs.old) × (course.long < length ys.old) }
-    ensures { (xs.new ≡ over (λ i. (course_cell first course i).x) (course.long + 1) xs.old)
-        × (ys.new ≡ over (λ i. (course_cell first course i).y) (course.long + 1) ys.old) }
+    requires { (course.path.long < length xs.old) × (course.path.long < length ys.old) }
+    ensures { (xs.new ≡ over (λ i. (course_cell first course.path i).x) (course.path.long + 1) xs.old)
+        × (ys.new ≡ over (λ i. (course_cell first course.path i).y) (course.path.long + 1) ys.old) }
 {
-    let long = course.long;
-    let steep = course.steep;
-    let f = gradient_of(long, course.short) as u64;
+    let long = course.path.long;
+    let f = gradient_of(long, course.path.short) as u64;
     let one = 4294967296;
-    list_along(
-        xs,
-        first,
-        course.right,
-        course.x,
-        long,
-        chosen_parts(steep, f, one),
-    );
-    list_along(ys, first, true, course.y, long, chosen_parts(steep, one, f));
+    let (across, down) = if course.path.steep {
+        (f, one)
+    } else {
+        (one, f)
+    };
+    list_along(xs, first, course.path.right, course.path.x, long, across);
+    list_along(ys, first, true, course.path.y, long, down);
 }
 
 // Whether lists of n and m places have one for each of l + 1 cells.
@@ -85,20 +62,20 @@ fn has_room(l: u32, n: usize, m: usize) -> bool
     (cells <= n) & (cells <= m)
 }
 
-// Lists the cells of a line from its first named end to its second: x into one list, y into the other.
-pub fn list_line(xs: &mut [i32], ys: &mut [i32], from: Cell, to: Cell) -> Reply
-    ensures { ListsInto from to xs.old ys.old (told result) xs.new ys.new }
+/// Lists the cells of a line from its first named end to its second: x into one list, y into the other.
+pub fn list_line(xs: &mut [i32], ys: &mut [i32], from: Cell, to: Cell) -> Result<usize, Refusal>
+    ensures { ListsInto from to xs.old ys.old (told count_answer result) xs.new ys.new }
 {
     if !in_limits(from, to) {
-        return Reply::Refused(Refusal::Coordinate);
+        return Err(Refusal::Coordinate);
     }
     let a = sheet::lift_cell(from);
     let b = sheet::lift_cell(to);
     let course = course_of(a, b);
-    let long = course.long;
+    let long = course.path.long;
     if !has_room(long, xs.len(), ys.len()) {
-        return Reply::Refused(Refusal::Room);
+        return Err(Refusal::Room);
     }
     list_course(xs, ys, course, is_lesser(a, b));
-    Reply::Counted(long as usize + 1)
+    Ok(long as usize + 1)
 }

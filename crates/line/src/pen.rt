@@ -2,44 +2,24 @@
 ghost use Rattle.std.specs.Prelude.{◌≡◌, ◌-◌, ◌≤◌, if◌then◌else◌};
 ghost use Rattle.sheet.specs.Inner.{lowered_cell};
 ghost use Rattle.line.specs.Rule.{rise};
-ghost use Rattle.line.specs.Inner.Course.{spot_at, Runs};
-ghost use Rattle.line.specs.Pen.{told_begun, told_step, told_asked, begin_answer, next_answer, ask_answer, left, kept_of};
-ghost use Rattle.line.specs.Inner.Step.{asked_of};
+ghost use Rattle.line.specs.Inner.Course.{spot_at};
+ghost use Rattle.sheet.specs.Reply.{told, told_next};
+ghost use Rattle.line.specs.Pen.{pen_answer, step_answer, cell_answer, begin_answer, next_answer, ask_answer, left};
 
-use crate::{Course, chosen, course_of, in_limits, is_lesser, spot_of};
+use crate::{Course, course_of, in_limits, is_lesser, spot_of};
 use sheet::{Cell, Refusal, lift_cell, lower_cell};
 
-// The two ends, from the first named to the second, and how many cells were answered; to C five numbers.
+/// The two ends, from the first named to the second, and how many cells were answered; to C five numbers.
 #[repr(C)]
-#[derive(Clone, Copy)]
+#[derive(Clone, Copy, Debug, PartialEq, Eq, Hash)]
 pub struct Pen {
     pub from: Cell,
     pub to: Cell,
     pub told: u32,
 }
 
-// The reply of a beginning.
-#[derive(Clone, Copy)]
-pub enum Begun {
-    Pen(Pen),
-    Refused(Refusal),
-}
-
-// The reply of a pen that is asked: the next cell and the pen moved on.
-#[derive(Clone, Copy)]
-pub enum Step {
-    Cell(Cell, Pen),
-    Finished,
-}
-
-// The reply of a lent pen that is asked: the next cell.
-#[derive(Clone, Copy)]
-pub enum Asked {
-    Cell(Cell),
-    Finished,
-}
-
 // The steps along the shorter extent s after n along the longer extent l.
+#[tactic(auto, unfolding(crate::specs::Rule::rise))]
 fn rise_of(l: u32, s: u32, n: u32) -> u32
     requires { (s ≤ l) × (l ≤ 32767) × (n ≤ l) }
     ensures { result ≡ rise l s n }
@@ -52,86 +32,78 @@ fn rise_of(l: u32, s: u32, n: u32) -> u32
 
 // The nth cell of a course, counted forward from its lesser end or back from the other.
 fn cell_at(course: Course, forward: bool, n: u32) -> Cell
-    requires { Runs course × (n ≤ course.long) }
-    ensures { result ≡ lowered_cell (spot_at course (if forward then n else course.long - n)) }
+    requires { n ≤ course.path.long }
+    ensures { result ≡ lowered_cell (spot_at course.path (if forward then n else course.path.long - n)) }
 {
-    let m = chosen(forward, n, course.long - n);
-    lower_cell(spot_of(course, m, rise_of(course.long, course.short, m)))
+    let m = if forward { n } else { course.path.long - n };
+    lower_cell(spot_of(course, m, rise_of(course.path.long, course.path.short, m)))
 }
 
 impl Pen {
-    // The limits of a coordinate of its ends.
+    /// The limits of a coordinate of its ends.
     pub const LEAST: i32 = Cell::LEAST;
 
     pub const MOST: i32 = Cell::MOST;
 
-    // A pen that has answered no cell.
-    pub fn begin(from: Cell, to: Cell) -> Begun
-        ensures { told_begun result ≡ begin_answer from to }
+    /// A pen that has answered no cell.
+    #[tactic(auto, unfolding(crate::specs::Pen::begin_answer))]
+    pub fn begin(from: Cell, to: Cell) -> Result<Pen, Refusal>
+        ensures { told pen_answer result ≡ begin_answer from to }
     {
         if !in_limits(from, to) {
-            return Begun::Refused(Refusal::Coordinate);
+            return Err(Refusal::Coordinate);
         }
-        Begun::Pen(Pen { from, to, told: 0 })
+        Ok(Pen { from, to, told: 0 })
     }
 
-    // The next cell of the listing and the pen moved on, or finished.
-    pub fn next(self) -> Step
-        ensures { told_step result ≡ next_answer self }
+    /// The next cell of the listing and the pen moved on, or finished.
+    pub fn next(self) -> Option<(Cell, Pen)>
+        ensures { told_next step_answer result ≡ next_answer self }
     {
-        let first = self.from;
-        let second = self.to;
-        let told = self.told;
-        if !in_limits(first, second) {
-            return Step::Finished;
+        let Pen { from, to, told } = self;
+        if !in_limits(from, to) {
+            return None;
         }
-        let a = lift_cell(first);
-        let b = lift_cell(second);
+        let a = lift_cell(from);
+        let b = lift_cell(to);
         let course = course_of(a, b);
-        let cells = course.long + 1;
-        if cells <= told {
-            return Step::Finished;
+        if course.path.long < told {
+            return None;
         }
         let cell = cell_at(course, is_lesser(a, b), told);
-        Step::Cell(
+        Some((
             cell,
             Pen {
-                from: first,
-                to: second,
                 told: told + 1,
+                ..self
             },
-        )
+        ))
     }
 }
 
-impl Step {
-    // What a lent pen answers.
-    fn asked(self) -> Asked
-        ensures { result ≡ asked_of self }
-    {
-        match self {
-            Step::Cell(cell, _) => Asked::Cell(cell),
-            Step::Finished => Asked::Finished,
-        }
-    }
-
-    // The pen after the step, which was `before` until then.
-    fn kept(self, before: Pen) -> Pen
-        ensures { result ≡ kept_of self before }
-    {
-        match self {
-            Step::Cell(_, moved) => moved,
-            Step::Finished => before,
-        }
-    }
-}
-
-// The second form: the pen is lent, and left standing one cell further.
-pub fn advance(pen: &mut Pen) -> Asked
-    ensures { (told_asked result ≡ ask_answer pen.old) × (pen.new ≡ left pen.old) }
+/// The next cell of a pen that is lent, which is left standing one cell further; or finished.
+pub fn advance(pen: &mut Pen) -> Option<Cell>
+    ensures cell { told_next cell_answer result ≡ ask_answer pen.old }
+    ensures pen { pen.new ≡ left pen.old }
 {
-    let p = *pen;
-    let s = p.next();
-    *pen = s.kept(p);
-    s.asked()
+    let (cell, moved) = Pen::next(*pen)?;
+    *pen = moved;
+    Some(cell)
+}
+
+// It is an iterator, too: it gives the cells that it has left.
+impl Iterator for Pen {
+    type Item = Cell;
+
+    ghost use Rattle.std.specs.Iterator.{YieldsFirst, item_count};
+    ghost use Rattle.line.specs.Pen.{cells_left};
+
+    ghost next_gives = { YieldsFirst cells_left };
+
+    ghost remaining = { item_count cells_left };
+
+    #[tactic(auto, using(crate::proofs::Yields::yields))]
+    fn next(&mut self) -> Option<Cell> {
+        advance(self)
+    }
 }

@@ -1,31 +1,20 @@
 // The range of a line's cells that are on the sheet: the first of them, and the first past them.
-ghost use Rattle.std.specs.Prelude.{◌≡◌, ◌-◌, ◌≤◌};
-ghost use Rattle.line.specs.Inner.Course.{Runs};
-ghost use Rattle.line.specs.Inner.Span.{enters, leaves, FirstAt, Enters, Leaves};
+ghost use Rattle.std.specs.Prelude.{◌≡◌, ◌-◌, ◌≤◌, if◌then◌else◌};
+ghost use Rattle.line.specs.Inner.Span.{FirstAt, Enters, Leaves};
 
-use crate::{Course, chosen, larger, smaller};
-use sheet::Shape;
+use crate::Course;
+use sheet::Sheet;
 
-// a less b, or 0 where that is below 0.
-fn less(a: u32, b: u32) -> u32
-    ensures { result ≡ a - b }
+// Steps from m, up or down, to the first coordinate at an edge or beyond it: at the edge or above going up, below it going down.
+fn steps_to(up: bool, m: u32, edge: u32) -> u32
+    requires { 1 ≤ edge }
+    ensures { result ≡ (if up then edge - m else m - (edge - 1)) }
 {
-    if b < a { a - b } else { 0 }
-}
-
-// Steps from m along an axis of the sheet: the first that is not before the sheet, and the first past it.
-fn steps_to(up: bool, m: u32, size: u32) -> u32
-    requires { size ≤ 4096 }
-    ensures { result ≡ enters up m size }
-{
-    chosen(up, less(65536, m), less(m, 65535 + size))
-}
-
-fn steps_past(up: bool, m: u32, size: u32) -> u32
-    requires { size ≤ 4096 }
-    ensures { result ≡ leaves up m size }
-{
-    chosen(up, less(65536 + size, m), less(m, 65535))
+    if up {
+        edge.saturating_sub(m)
+    } else {
+        m.saturating_sub(edge - 1)
+    }
 }
 
 // The first n at which the shorter extent has come k steps; l + 1 where none has.
@@ -44,29 +33,34 @@ fn least_n(k: u32, l: u32, s: u32) -> u32
     (m + (d - 1)) / d
 }
 
-// The first n whose cell is not before the sheet along either axis, and the first past it along one.
-pub(crate) fn first_n(shape: Shape, course: Course) -> u32
-    requires { (shape.width ≤ 4096) × (shape.height ≤ 4096) × Runs course }
-    ensures { Enters shape course result }
+// The first n whose cell is not before the sheet along either axis, and the first past it along one: the greater of two bounds, and the
+// lesser, each with a contract of its own.
+pub(crate) fn first_n(sheet: &Sheet<'_>, course: Course) -> u32
+    ensures { Enters sheet.now.shape course.path result }
 {
-    let steep = course.steep;
-    let x = steps_to(course.right, course.x, shape.width);
-    let y = steps_to(true, course.y, shape.height);
-    larger(
-        chosen(steep, y, x),
-        least_n(chosen(steep, x, y), course.long, course.short),
-    )
+    let shape = sheet.shape;
+    let near = if course.path.right {
+        65536
+    } else {
+        65536 + shape.width
+    };
+    let x = steps_to(course.path.right, course.path.x, near);
+    let y = steps_to(true, course.path.y, 65536);
+    let (along, across) = if course.path.steep { (y, x) } else { (x, y) };
+    along.max(least_n(across, course.path.long, course.path.short))
 }
 
-pub(crate) fn past_n(shape: Shape, course: Course) -> u32
-    requires { (shape.width ≤ 4096) × (shape.height ≤ 4096) × Runs course }
-    ensures { Leaves shape course result }
+pub(crate) fn past_n(sheet: &Sheet<'_>, course: Course) -> u32
+    ensures { Leaves sheet.now.shape course.path result }
 {
-    let steep = course.steep;
-    let x = steps_past(course.right, course.x, shape.width);
-    let y = steps_past(true, course.y, shape.height);
-    smaller(
-        chosen(steep, y, x),
-        least_n(chosen(steep, x, y), course.long, course.short),
-    )
+    let shape = sheet.shape;
+    let far = if course.path.right {
+        65536 + shape.width
+    } else {
+        65536
+    };
+    let x = steps_to(course.path.right, course.path.x, far);
+    let y = steps_to(true, course.path.y, 65536 + shape.height);
+    let (along, across) = if course.path.steep { (y, x) } else { (x, y) };
+    along.min(least_n(across, course.path.long, course.path.short))
 }

@@ -4,7 +4,7 @@ use Rattle.sheet.specs.Inner.{Moved, unmoved, unmoved_cell}
 use Rattle.sheet.specs.declared.Cell.{Cell}
 use Rattle.line.specs.Inner.Course.{stepped, spot_at}
 use Rattle.line.specs.Inner.Fixed.{gone}
-use Rattle.line.specs.declared.Course.{Course}
+use Rattle.line.specs.declared.Path.{Path}
 
 -- the first n places hold g 0, .., g (n − 1), and the others what stood there
 unfoldable pub over : (ℕ → ℤ) → ℕ → List ℤ → List ℤ
@@ -31,5 +31,5 @@ pub record Bounded (m l f : ℕ) : Type 0 where
   pub slow : f ≤ 4294967296
 
 -- the cell at the ith place, of a course
-unfoldable pub course_cell : Bool → Course → ℕ → Cell
+unfoldable pub course_cell : Bool → Path → ℕ → Cell
 course_cell first c i = unmoved_cell (spot_at c (number_at first c.long i))

@@ -6,7 +6,7 @@ use Rattle.sheet.specs.Inner.{Moved, unmoved_cell}
 use Rattle.sheet.specs.declared.Cell.{Cell}
 use Rattle.sheet.specs.declared.Spot.{Spot}
 use Rattle.line.specs.Rule.{rise, longer, shorter}
-use Rattle.line.specs.declared.Course.{Course}
+use Rattle.line.specs.declared.Path.{Path}
 
 -- how far two numbers are apart
 abbrev pub gap : ℕ → ℕ → ℕ
@@ -24,7 +24,7 @@ abbrev pub along_y : Bool → ℕ → ℕ → ℕ
 along_y steep n q = cond steep n q
 
 -- the nth spot of a course
-unfoldable pub spot_at : Course → ℕ → Spot
+unfoldable pub spot_at : Path → ℕ → Spot
 spot_at c n =
     record {
       x = stepped c.right c.x (along_x c.steep n (rise c.long c.short n));
@@ -35,22 +35,27 @@ spot_at c n =
 abbrev pub lesser_spot : Spot → Spot → Bool
 lesser_spot p q = nat_lt p.y q.y || (p.y == q.y && nat_le p.x q.x)
 
-abbrev pub course_from : Spot → Spot → Course
-course_from p q =
+abbrev pub path_from : Spot → Spot → Path
+path_from p q =
     let w = gap p.x q.x in
     let t = gap p.y q.y in
     record { x = p.x; y = p.y; right = nat_le p.x q.x; steep = nat_lt w t; long = longer w t; short = shorter w t }
 
-unfoldable pub course_between : Spot → Spot → Course
-course_between p q = cond (lesser_spot p q) (course_from p q) (course_from q p)
+unfoldable pub path_between : Spot → Spot → Path
+path_between p q = cond (lesser_spot p q) (path_from p q) (path_from q p)
 
--- what inner functions are promised of a course
-pub record Runs (c : Course) : Type 0 where
+-- what holds of the path of a course
+pub record Runs (c : Path) : Type 0 where
   pub start_x : Moved c.x
   pub start_y : Moved c.y
   pub shorter : c.short ≤ c.long
   pub limit : c.long ≤ 32767
 
+-- a spot that stands for a cell within the limits
+pub record IsMoved (p : Spot) : Type 0 where
+  pub x : Moved p.x
+  pub y : Moved p.y
+
 -- the first n cells of a course
-unfoldable pub first_cells : Course → ℕ → Cell → Bool
+unfoldable pub first_cells : Path → ℕ → Cell → Bool
 first_cells course n c = any n (λ (i : ℕ). is_cell (unmoved_cell (spot_at course i)) c)

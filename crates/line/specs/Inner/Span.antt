@@ -9,7 +9,7 @@ use Rattle.sheet.specs.declared.Spot.{Spot}
 use Rattle.sheet.specs.declared.repaint.Rectangle.{Rectangle}
 use Rattle.line.specs.Rule.{rise}
 use Rattle.line.specs.Inner.Course.{along_x, along_y, spot_at}
-use Rattle.line.specs.declared.Course.{Course}
+use Rattle.line.specs.declared.Path.{Path}
 
 -- steps from m, up or down, along an axis on which the sheet has `size` cells: the first that is not before the sheet; the first past it
 abbrev pub enters : Bool → ℕ → ℕ → ℕ
@@ -25,20 +25,20 @@ pub record FirstAt (k l s r : ℕ) : Type 0 where
   pub until : (n : ℕ) → n ≤ l → n < r → rise l s n < k
 
 -- steps of the nth spot along x and along y
-abbrev pub steps_x : Course → ℕ → ℕ
+abbrev pub steps_x : Path → ℕ → ℕ
 steps_x c n = along_x c.steep n (rise c.long c.short n)
 
-abbrev pub steps_y : Course → ℕ → ℕ
+abbrev pub steps_y : Path → ℕ → ℕ
 steps_y c n = along_y c.steep n (rise c.long c.short n)
 
 -- r ≤ n just where the nth spot is not before the sheet, along x and along y
-pub record Enters (k : Shape) (c : Course) (r : ℕ) : Type 0 where
+pub record Enters (k : Shape) (c : Path) (r : ℕ) : Type 0 where
   pub x_in : (n : ℕ) → n ≤ c.long → r ≤ n → enters c.right c.x k.width ≤ steps_x c n
   pub y_in : (n : ℕ) → n ≤ c.long → r ≤ n → enters true c.y k.height ≤ steps_y c n
   pub out : (n : ℕ) → n ≤ c.long → n < r → (steps_x c n < enters c.right c.x k.width) ⊎ (steps_y c n < enters true c.y k.height)
 
 -- n < r just where the nth spot is not past the sheet
-pub record Leaves (k : Shape) (c : Course) (r : ℕ) : Type 0 where
+pub record Leaves (k : Shape) (c : Path) (r : ℕ) : Type 0 where
   pub low : r ≤ c.long + 1
   pub x_in : (n : ℕ) → n ≤ c.long → n < r → steps_x c n < leaves c.right c.x k.width
   pub y_in : (n : ℕ) → n ≤ c.long → n < r → steps_y c n < leaves true c.y k.height
@@ -52,7 +52,7 @@ pub record On (k : Shape) (p : Spot) : Type 0 where
   pub bottom : p.y < 65536 + k.height
 
 -- the spots on the sheet are those of n in first .. past − 1
-pub record Spans (k : Shape) (c : Course) (first past : ℕ) : Type 0 where
+pub record Spans (k : Shape) (c : Path) (first past : ℕ) : Type 0 where
   pub low : past ≤ c.long + 1
   pub on : (n : ℕ) → first ≤ n → n < past → On k (spot_at c n)
   pub before : (n : ℕ) → n ≤ c.long → n < first → On k (spot_at c n) → ⊥

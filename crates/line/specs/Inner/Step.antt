@@ -1,9 +1,7 @@
 -- What a step of the pen by value tells of the lent form.
-use Rattle.line.specs.declared.pen.Step.{Step}
-use Rattle.line.specs.declared.pen.Step.TheVariants as step
-use Rattle.line.specs.declared.pen.Asked.{Asked}
-use Rattle.line.specs.declared.pen.Asked.TheVariants as asked
+use Rattle.std.specs.Prelude.{Option, option_map}
+use Rattle.sheet.specs.declared.Cell.{Cell}
+use Rattle.line.specs.declared.pen.Pen.{Pen}
 
-abbrev pub asked_of : Step → Asked
-asked_of (step.Cell c q) = asked.Cell c
-asked_of step.Finished = asked.Finished
+abbrev pub asked_of : Option (Cell × Pen) → Option Cell
+asked_of s = option_map (λ (t : Cell × Pen). t.0) s

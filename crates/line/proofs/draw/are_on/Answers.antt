@@ -5,4 +5,4 @@ use Rattle.line.proofs.draw.are_on.Goals as goal
 pub returns : goal.returns
 returns c =
     let a = c.args in
-    on_test a.shape a.a a.b _ _ _ _ c.smaller.ensures c.larger.ensures c.smaller-2.ensures c.larger-2.ensures
+    on_test a.shape a.a a.b _ _ _ _ c.min.ensures c.max.ensures c.min-2.ensures c.max-2.ensures

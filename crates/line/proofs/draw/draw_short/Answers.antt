@@ -1,32 +1,32 @@
 -- `line::draw::draw_short` meets its contract.
-use Rattle.std.proofs.Common.{◌≡◌, ◌+◌, ◌<◌, true, ◌&&◌, ltb, length, sym, refl, ap, ◌∙◌, arith, ltb-true}
+use Rattle.std.proofs.Common.{rules, ◌≡◌, ◌+◌, ◌<◌, true, ◌&&◌, ltb, length, sym, refl, ap, ◌∙◌, arith, ltb-true}
 use Rattle.laws.proofs.Tests.{no, yes, halves}
 use Rattle.sheet.specs.Sheet.{within_limits}
 use Rattle.sheet.specs.Inner.{Sheet, unmoved_cell, fits}
-use Rattle.sheet.proofs.Lent.{is_sheet, is_no_sheet}
+use Rattle.sheet.proofs.Lent.{passed_sheet, failed_sheet}
 use Rattle.sheet.proofs.Limits.{fits_sheet}
-use Rattle.line.specs.declared.Course.{Course}
+use Rattle.line.specs.declared.Path.{Path}
 use Rattle.line.specs.Rule.{long}
 use Rattle.line.specs.Inner.Course.{Runs}
 use Rattle.line.specs.Inner.Span.{On, Spans}
-use Rattle.line.proofs.Answers.{spot_lifted, on_limits, line_runs, line_painted}
+use Rattle.line.proofs.Answers.{spot_lifted, on_moved, on_limits, line_runs, line_painted}
 use Rattle.line.proofs.Bridge.{course_long}
 use Rattle.line.proofs.OnSheet.{on_of}
 use Rattle.line.proofs.Rise.{rise_start}
 use Rattle.line.proofs.Short.{short_sheet, short_ends, short_length, short_asked}
 use Rattle.line.proofs.Whole.{course_whole}
 use Rattle.line.proofs.draw.draw_short.Goals as goal
-use Rattle.line.proofs.draw.draw_short.Goals.{After-course_of-course, Else-not-are_on, Else-not-is_done, Else-not-long}
+use Rattle.line.proofs.draw.draw_short.Goals.{After-course_of-course, Else-not-are_on, Else-is_err, Else-not-long}
 
-pub returns-then-not-is_done : goal.returns-then-not-is_done
-returns-then-not-is_done c =
-    record { value = sym (short_sheet _ _ _ _ (is_no_sheet _ _ _ _ c.check-tested.ensures c.is_done.ensures c.if-not-is_done.true-raw)); sheet_after = refl }
+pub returns-then-is_err : goal.returns-then-is_err
+returns-then-is_err c =
+    record { value = sym (short_sheet _ _ _ _ (failed_sheet _ _ _ c.check.ensures c.if-is_err.ensures.value)); sheet_after = refl }
 
 -- what each test showed
-fitted : (c : Else-not-is_done) → let a = c.args in fits a.shape (length a.sheet.now) ≡ true
-fitted c = is_sheet _ _ _ _ c.check-tested.ensures c.is_done.ensures c.if-not-is_done.false-raw
+fitted : (c : Else-is_err) → let a = c.args in fits a.shape (length a.sheet.now) ≡ true
+fitted c = passed_sheet _ _ _ c.check.ensures c.if-is_err.ensures.value
 
-lent : (c : Else-not-is_done) → let a = c.args in Sheet a.shape a.sheet.now
+lent : (c : Else-is_err) → let a = c.args in Sheet a.shape a.sheet.now
 lent c = let a = c.args in fits_sheet a.shape a.sheet.now (fitted c)
 
 pub are_on-requires : goal.are_on-requires
@@ -35,12 +35,19 @@ are_on-requires c = let k = lent c in (k.wide, k.high)
 pub returns-then-not-are_on : goal.returns-then-not-are_on
 returns-then-not-are_on c = record { value = sym (short_ends _ _ _ _ (no _ _ c.are_on.ensures c.if-not-are_on.true-raw)); sheet_after = refl }
 
+pub course_of-course-requires : goal.course_of-course-requires
+course_of-course-requires c =
+    let a = c.args in
+    let h = halves _ _ (sym c.if-not-are_on.ensures) in
+    let k = lent (goal.at.course_of-course-requires c).Else-is_err in
+    (on_moved a.shape a.from k.wide k.high (on_of _ _ h.0), on_moved a.shape a.to k.wide k.high (on_of _ _ h.1))
+
 -- both ends are on the sheet
 ends_on : (c : After-course_of-course) → let a = c.args in On a.shape a.from × On a.shape a.to
 ends_on c = let h = halves _ _ (yes _ _ c.are_on.ensures c.if-not-are_on.false-raw) in (on_of _ _ h.0, on_of _ _ h.1)
 
 fitted_2 : (c : After-course_of-course) → let a = c.args in fits a.shape (length a.sheet.now) ≡ true
-fitted_2 c = is_sheet _ _ _ _ c.check-tested.ensures c.is_done.ensures c.if-not-is_done.false-raw
+fitted_2 c = passed_sheet _ _ _ c.check.ensures c.if-is_err.ensures.value
 
 lent_2 : (c : After-course_of-course) → let a = c.args in Sheet a.shape a.sheet.now
 lent_2 c = let a = c.args in fits_sheet a.shape a.sheet.now (fitted_2 c)
@@ -54,23 +61,23 @@ within c =
 
 -- the code's test of its length
 both_long : (c : After-course_of-course) → let a = c.args in
-    let l = c.course_of-course.result.long in let L = long (unmoved_cell a.from) (unmoved_cell a.to) in (ltb 0 l && ltb l 128) ≡ (ltb 0 L && ltb L 128)
+    let l = c.course_of-course.result.path.long in let L = long (unmoved_cell a.from) (unmoved_cell a.to) in (ltb 0 l && ltb l 128) ≡ (ltb 0 L && ltb L 128)
 both_long c =
     let a = c.args in
     let w = within c in
-    let e = ap (λ (d : Course). d.long) c.course_of-course.ensures ∙ course_long _ _ a.from a.to (spot_lifted a.from w.0) (spot_lifted a.to w.1) in
+    let e = ap (λ (d : Path). d.long) c.course_of-course.ensures ∙ course_long _ _ a.from a.to (spot_lifted a.from w.0) (spot_lifted a.to w.1) in
     λ i. ltb 0 (e i) && ltb (e i) 128
 
 pub returns-then-not-long : goal.returns-then-not-long
 returns-then-not-long c = record { value = sym (short_length _ _ _ _ (no _ _ (both_long (goal.at.returns-then-not-long c).After-course_of-course) c.if-not-long.true-raw)); sheet_after = refl }
 
-runs_on : (c : After-course_of-course) → Runs c.course_of-course.result
+runs_on : (c : After-course_of-course) → Runs c.course_of-course.result.path
 runs_on c =
     let a = c.args in
     let w = within c in
     line_runs a.shape _ _ _ _ _ (spot_lifted a.from w.0) (spot_lifted a.to w.1) c.course_of-course.ensures
 
-spanned : (c : After-course_of-course) → let course = c.course_of-course.result in Spans c.args.shape course 0 (course.long + 1)
+spanned : (c : After-course_of-course) → let course = c.course_of-course.result.path in Spans c.args.shape course 0 (course.long + 1)
 spanned c =
     let a = c.args in
     let o = ends_on c in
@@ -78,11 +85,13 @@ spanned c =
 
 pub byte_at-at-requires : goal.byte_at-at-requires
 byte_at-at-requires c =
-    let course = c.course_of-course.result in
-    let k = lent (goal.at.byte_at-at-requires c).Else-not-is_done in
-    record { pitch_bound = (k.far, k.wide, k.high, runs_on (goal.at.byte_at-at-requires c).After-course_of-course); n_le_long = (omega arith, sym (rise_start course.long course.short), (spanned (goal.at.byte_at-at-requires c).After-course_of-course).on 0 (omega arith) (omega arith)) }
+    let course = c.course_of-course.result.path in
+    (omega arith, sym (rise_start course.long course.short), (spanned (goal.at.byte_at-at-requires c).After-course_of-course).on 0 (omega arith) (omega arith))
 
-short : (c : Else-not-long) → let course = c.course_of-course.result in (0 < course.long) × (course.long < 128)
+pub invariant_of-sheet : goal.invariant_of-sheet
+invariant_of-sheet c = record { fits = lent (goal.at.invariant_of-sheet c).Else-is_err }
+
+short : (c : Else-not-long) → let course = c.course_of-course.result.path in (0 < course.long) × (course.long < 128)
 short c = let h = halves _ _ (yes _ _ refl c.if-not-long.false-raw) in (ltb-true _ _ h.0, ltb-true _ _ h.1)
 
 pub short_slope-slope-requires : goal.short_slope-slope-requires
@@ -92,13 +101,13 @@ short_slope-slope-requires c =
 
 pub walk-requires : goal.walk-requires
 walk-requires c =
-    record { sheet = (lent (goal.at.walk-requires c).Else-not-is_done, runs_on (goal.at.walk-requires c).After-course_of-course); first_lt_past = (omega arith, spanned (goal.at.walk-requires c).After-course_of-course, c.short_slope-slope.ensures, c.byte_at-at.ensures) }
+    record { first_lt_past = (omega arith, spanned (goal.at.walk-requires c).After-course_of-course, c.short_slope-slope.ensures, c.byte_at-at.ensures) }
 
 ends_on_2 : (c : Else-not-are_on) → let a = c.args in On a.shape a.from × On a.shape a.to
 ends_on_2 c = let h = halves _ _ (yes _ _ c.are_on.ensures c.if-not-are_on.false-raw) in (on_of _ _ h.0, on_of _ _ h.1)
 
 fitted_3 : (c : Else-not-are_on) → let a = c.args in fits a.shape (length a.sheet.now) ≡ true
-fitted_3 c = is_sheet _ _ _ _ c.check-tested.ensures c.is_done.ensures c.if-not-is_done.false-raw
+fitted_3 c = passed_sheet _ _ _ c.check.ensures c.if-is_err.ensures.value
 
 lent_3 : (c : Else-not-are_on) → let a = c.args in Sheet a.shape a.sheet.now
 lent_3 c = let a = c.args in fits_sheet a.shape a.sheet.now (fitted_3 c)
@@ -113,4 +122,4 @@ within_2 c =
 pub returns : goal.returns
 returns c =
     let a = c.args in
-    let w = within_2 (goal.at.returns c).Else-not-are_on in record { value = sym (short_asked _ _ _ _ (fitted (goal.at.returns c).Else-not-is_done) (yes _ _ c.are_on.ensures c.if-not-are_on.false-raw) (yes _ _ (both_long (goal.at.returns c).After-course_of-course) c.if-not-long.false-raw)); sheet_after = line_painted a.shape _ _ _ _ _ (spot_lifted a.from w.0) (spot_lifted a.to w.1) c.course_of-course.ensures a.ink _ _ c.walk.ensures }
+    let w = within_2 (goal.at.returns c).Else-not-are_on in record { value = sym (short_asked _ _ _ _ (fitted (goal.at.returns c).Else-is_err) (yes _ _ c.are_on.ensures c.if-not-are_on.false-raw) (yes _ _ (both_long (goal.at.returns c).After-course_of-course) c.if-not-long.false-raw)); sheet_after = line_painted a.shape _ _ _ _ _ (spot_lifted a.from w.0) (spot_lifted a.to w.1) c.course_of-course.ensures a.ink _ _ (search rules) }

@@ -1,10 +1,6 @@
 -- `line::listing::list_along` meets its contract.
-use Rattle.std.proofs.Common.{◌-◌}
 use Rattle.line.proofs.Along.{Running}
 use Rattle.line.proofs.listing.list_along.Given as goal
 
 abbrev pub invariant-loop-i : goal.invariant-loop-i
 invariant-loop-i l = Running l.first l.up l.m l.l l.f l.initial.list l.list l.t l.i
-
-abbrev pub decreases-loop-i : goal.decreases-loop-i
-decreases-loop-i l = l.cells - l.i
