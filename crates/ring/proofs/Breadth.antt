@@ -1,6 +1,6 @@
 -- How far from its middle the cells of a ring are in some rows, and the rectangle of these rows.
 use Prim.Native.Nat.{ℕ, ◌+◌, ◌-◌, ◌*◌, ◌≤◌, ◌<◌, min, max}
-use mathlib.Core.Path.{◌≡◌, refl, sym, subst, ap₂, ◌∙◌}
+use mathlib.Core.Path.{◌≡◌, refl, sym, subst}
 use mathlib.Core.Logic.{inl, inr, ⊎_elim}
 use mathlib.Core.List.{List}
 use mathlib.Core.Bool.{Bool, true, false, cond}
@@ -42,20 +42,6 @@ pub record Breadth (g : Ring) (l r n m : ℕ) : Type 0 where
 
 stairs : {k : Shape} {g : Ring} → Placed k g → Stairs g.a g.b (ellipse_rule g.a g.b)
 stairs {k} {g} P = stairs_from_one g.a g.b P.axis_a.0 P.axis_b.0
-
--- the rectangle as it is worked out, by its sides
-module _ (w x n m top bottom : ℕ) where
-  pub spread_is : (a b c d left right : ℕ) → a ≡ x - (65536 + m) → b ≡ x + n - 65536 → left ≡ cond (leb (65536 + n) x) a b
-      → c ≡ min (x + m) (65535 + w) - 65535 → d ≡ x - (n + 65535) → right ≡ cond (leb (x + n) (65535 + w)) c d
-      → ◌≡◌ {A = Rectangle} (record { left = left; top = top; right = right; bottom = bottom }) (spread w x n m top bottom)
-  spread_is a b c d left right p q e r s f =
-      let g = e ∙ ap₂ (cond (leb (65536 + n) x)) p q in
-      let h = f ∙ ap₂ (cond (leb (x + n) (65535 + w))) r s in
-      λ i. record { left = g i; top = top; right = h i; bottom = bottom }
-
-pub cond_most : (t : Bool) (m n k : ℕ) → m ≤ k → n ≤ k → cond t m n ≤ k
-cond_most true m n k p q = p
-cond_most false m n k p q = q
 
 -- the columns that are n to m off a middle, where each such distance is that of a column of the sheet
 module _ (w x n m : ℕ) (o : n ≤ m) where

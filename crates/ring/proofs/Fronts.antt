@@ -41,9 +41,6 @@ front_here a b v m r o e = record { low = omega arith; high = o; before = λ n p
 pub front_join : {a b v l r x : ℕ} → Front a b v l x x → Front a b v x r x → Front a b v l r x
 front_join F G = record { low = F.low; high = G.high; before = F.before; at = G.at }
 
-pub front_first : {a b v l r x : ℕ} → x ≡ l → Front a b v x r x → Front a b v l r x
-front_first e F = record { low = omega arith; high = F.high; before = λ n p q. absurd (omega arith); at = F.at }
-
 pub front_last : {a b v l r x : ℕ} → x ≡ r → Front a b v l x x → Front a b v l r x
 front_last e F = record { low = F.low; high = omega arith; before = F.before; at = λ p. absurd (omega arith) }
 
@@ -67,15 +64,6 @@ front_some a b v l r o = by (r - l) l (omega arith)
     by : (n m : ℕ) → m + n ≡ r → (x : ℕ) × Front a b v m r x
     by zero m e = (m, front_last (omega arith) (front_none a b v m))
     by (suc n) m e = front_on_from a b v m r (outside a b (2 * m) v) refl (omega arith) (by n (m + 1) (omega arith))
-
--- one halving
-pub front_halved : {a b v l r low high : ℕ} (m low' high' : ℕ) (t : Bool) → Front a b v l low low → Front a b v high r high → low ≤ m → m < high
-    → t ≡ outside a b (2 * m) v → low' ≡ cond t low (m + 1) → high' ≡ cond t m high
-    → Front a b v l low' low' × Front a b v high' r high' × (low' ≤ high') × (high' - low' < high - low)
-front_halved {a} {b} {v} {l} {r} m low' high' true F G p q e f g =
-    (rw f F, rw g (front_here a b v m r (omega (arith, G.high)) (sym e)), omega arith, omega arith)
-front_halved {a} {b} {v} {l} {r} m low' high' false F G p q e f g =
-    (rw f (front_beyond a b v l m (omega (arith, F.low)) (sym e)), rw g G, omega arith, omega arith)
 
 -- at the middle's own height it is past all columns
 pub front_level : (a b l r : ℕ) → l ≤ r → r ≤ a + 1 → Front a b 0 l r r

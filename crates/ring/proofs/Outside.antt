@@ -114,3 +114,10 @@ module _ (a b : ℕ) (h : 1 ≤ a) (k : 1 ≤ b) (x y : ℕ) where
 
   pub row_rule : Column b a y x → T (ellipse_rule a b x y)
   row_rule c = in_row a b h k x y (→column b a y x c)
+
+-- no product or sum of these sizes overflows
+pub square_fits : (m n : ℕ) → m ≤ 16383 → n ≤ 32768 → m * n * (m * n) ≤ 288230376151711744
+square_fits m n p q = sq_le {a = m * n} {b = 536870912} (mul-le-mul {n₁ = m} {m₁ = n} {n₂ = 16384} {m₂ = 32768} (omega arith) q)
+
+pub double_fits : (m n : ℕ) → m ≤ 16383 → n ≤ 16383 → 2 * (m * n) * (2 * (m * n)) ≤ 288230376151711744
+double_fits m n p q = sq_le {a = 2 * (m * n)} {b = 536870912} (omega (arith, mul-le-mul {n₁ = m} {m₁ = n} {n₂ = 16384} {m₂ = 16384} (omega arith) (omega arith)))

@@ -5,7 +5,6 @@ use mathlib.Core.Logic.{◌⊎◌, inl, inr, ⊎_elim}
 use mathlib.Core.List.{List}
 use mathlib.Core.Bool.{Bool, ◌&&◌, ◌||◌}
 use native.Mathlib.Omega.{arith}
-use native.Mathlib.Nat.{mul-le-mul}
 use lib.ListN.{length, set, length-set}
 use lib.Dec.{T, leb, ltb, eqb, leb→le, le→leb, ltb→lt, lt→ltb, eqb→eq}
 use Rattle.laws.proofs.Products.{lt_or_ge}
@@ -14,8 +13,6 @@ use Rattle.sheet.specs.Sheet.{paint, place, cell_of, is_cell}
 use Rattle.sheet.specs.Inner.{Sheet}
 use Rattle.sheet.specs.declared.Cell.{Cell}
 use Rattle.sheet.specs.declared.Shape.{Shape}
-use Rattle.sheet.proofs.Cells.{on_sheet_lem}
-use Rattle.sheet.proofs.Pitch.{cell_below}
 use Rattle.sheet.proofs.Limits.{still_sheet}
 use Rattle.sheet.proofs.Paint.{paint_none, paint_as, paint_then, paint_one, paint_length}
 use Rattle.ring.specs.Inner.{cells, off, run, part, band}
@@ -104,11 +101,6 @@ module _ (k : Shape) (ink row : ℕ) where
           let e : i ≡ x = omega arith in
           and_i (eqb i x) (eqb j row) (eqb_of i x e) (eqb_of j row w.0)
 
--- a column of a row is a byte of the sheet
-pub byte_in : {k : Shape} {s : List ℕ} → Sheet k s → (x row : ℕ) → x < k.width → row < k.height → row * k.pitch + x < length s
-unfolding place
-byte_in {k} {s} S x row a b = cell_below k s S (cell_of x row) (on_sheet_lem k x row a b)
-
 -- a run of a row of bytes, as far as it has come: on each sheet of that pitch that has the row
 pub record Running (pitch ink row from past : ℕ) (s t : List ℕ) (at : ℕ) : Type 0 where
   pub order : from ≤ at
@@ -145,10 +137,6 @@ runs_on {pitch} {ink} {row} {from} {past} {s} {t} {at} l R =
           (R.painted k S e h w)
           (ap (λ (n : ℕ). set t (row * n + at) ink) (sym e) ∙ run_one k ink row S at t (omega arith) h);
     }
-
--- and a row begins at a small one
-pub row_small : {k : Shape} {s : List ℕ} → Sheet k s → (row : ℕ) → row < k.height → row * k.pitch ≤ 33554432
-row_small {k} S row l = mul-le-mul {n₁ = row} {m₁ = k.pitch} {n₂ = 4096} {m₂ = 8192} (omega (arith, S.high)) S.far
 
 -- a run by its ends and what is between them
 module _ (k : Shape) (ink row first last : ℕ) (s : List ℕ) (S : Sheet k s) (h : row < k.height) (o : first ≤ last) (w : last < k.width) where

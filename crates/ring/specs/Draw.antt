@@ -5,7 +5,7 @@ use Rattle.sheet.specs.Reply.{Answer, done, unless}
 use Rattle.sheet.specs.Drawing.{Drawing, only, if_sheet}
 use Rattle.sheet.specs.declared.Cell.{Cell}
 use Rattle.sheet.specs.declared.Shape.{Shape}
-use Rattle.sheet.specs.declared.Refusal.TheVariants.{Coordinate, Radius}
+use Rattle.sheet.specs.declared.refusal.Refusal.TheVariants.{Coordinate, Radius}
 use Rattle.ring.specs.Ring.{on_ellipse}
 
 -- 1, 15, 2, 3, else 0, for a slice of n bytes

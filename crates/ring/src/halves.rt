@@ -6,9 +6,9 @@ ghost use Rattle.sheet.specs.Repaint.{box_of};
 ghost use Rattle.sheet.specs.Inner.{Sheet};
 ghost use Rattle.ring.specs.Inner.{Placed, cells, in_rows, Columned, NearRow, FarRow, spread};
 
-use crate::front::{chosen, end_after, halved, row_end};
+use crate::Ring;
+use crate::front::{end_after, halved, row_end};
 use crate::rows::{front_at, lower_rows, upper_rows};
-use crate::{Ring, larger, less, smaller};
 use sheet::{Rectangle, Shape};
 
 // Of rows, by how far they are from the middle: the first in which the ring has come to its columns on the sheet.
@@ -23,10 +23,10 @@ fn nearest_row(ring: Ring, from: usize, to: usize) -> usize
         return from;
     }
     let front = halved(b, a, 2 * past - 1, from, to);
-    larger(from, row_end(b, a, past - 1, front))
+    from.max(row_end(b, a, past - 1, front))
 }
 
-// The same: the first in which it has left them.
+// The same: the first in which it has left them. The one is bounded below and the other above, by other columns.
 fn past_furthest(ring: Ring, from: usize, to: usize) -> usize
     requires { Columned ring × (from ≤ to) × (to ≤ ring.b + 1) }
     ensures { FarRow ring from to result }
@@ -38,7 +38,7 @@ fn past_furthest(ring: Ring, from: usize, to: usize) -> usize
         return to;
     }
     let front = halved(b, a, 2 * least - 1, from, to);
-    smaller(to, row_end(b, a, least, front) + 1)
+    to.min(row_end(b, a, least, front) + 1)
 }
 
 // The rectangle of some rows in which the ring's columns on the sheet are low to high off its middle.
@@ -49,14 +49,18 @@ fn spread(shape: Shape, ring: Ring, top: usize, bottom: usize, low: usize, high:
 {
     let x = ring.x;
     let last = 65535 + shape.width as usize;
-    let n = larger(low, ring.least);
-    let m = smaller(high, ring.past - 1);
-    let left = chosen(65536 + n <= x, less(x, 65536 + m), less(x + n, 65536));
-    let right = chosen(
-        x + n <= last,
-        less(smaller(x + m, last), 65535),
-        less(x, n + 65535),
-    );
+    let n = low.max(ring.least);
+    let m = high.min(ring.past - 1);
+    let left = if 65536 + n <= x {
+        x.saturating_sub(65536 + m)
+    } else {
+        (x + n).saturating_sub(65536)
+    };
+    let right = if x + n <= last {
+        (x + m).min(last).saturating_sub(65535)
+    } else {
+        x.saturating_sub(n + 65535)
+    };
     Rectangle {
         left: left as u32,
         top: top as u32,
@@ -99,7 +103,8 @@ pub(crate) fn upper_half(
     spread(shape, ring, top, bottom, low, high)
 }
 
-// Inks rows from the middle down. Answers the rectangle of them.
+// Inks rows from the middle down. Answers the rectangle of them. Rows come from the top down in both halves, so that here the fronts come
+// in and above they go out: one loop for both would have to run one of them from below.
 pub(crate) fn lower_half(
     sheet: &mut [u8],
     shape: Shape,
@@ -127,7 +132,7 @@ pub(crate) fn lower_half(
     }
     let top = middle + near - 65536;
     let bottom = middle + past - 65536;
-    let first = front_at(ring, less(2 * near, 1));
+    let first = front_at(ring, (2 * near).saturating_sub(1));
     let last = lower_rows(sheet, shape, ink, ring, top, bottom, first);
     let low = end_after(a, b, past - 1, last);
     let high = row_end(a, b, near, first);

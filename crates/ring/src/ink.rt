@@ -4,30 +4,29 @@ ghost use Rattle.sheet.specs.Sheet.{paint};
 ghost use Rattle.sheet.specs.Inner.{Sheet};
 ghost use Rattle.ring.specs.Inner.{Placed, cells, run, part, band};
 
-use crate::{Ring, less, smaller};
+use crate::Ring;
 use sheet::Shape;
 
-// Inks the columns of a row from one to before another.
+// Inks the columns of a row from one to before another. By a loop, since runs are short: by `fill` a ring that leaves the sheet takes 1.2
+// to 1.5 times as long, and one of 512 by 512 cells 1.1 times.
 fn ink_run(sheet: &mut [u8], shape: Shape, ink: u8, row: usize, from: usize, past: usize)
     requires { Sheet shape sheet.old × (row < shape.height) × (from ≤ past) × (past ≤ shape.width) }
     ensures { sheet.new ≡ paint shape ink (cells (run row from past)) sheet.old }
 {
     let pitch = shape.pitch;
     let start = row * pitch as usize;
-    let mut at = from;
-    while at < past {
+    for at in from..past {
         sheet[start + at] = ink;
-        at += 1;
     }
 }
 
 // Inks those from the first to the last, with one branch for one and for two.
+#[tactic(auto, using(crate::proofs::Tested::run_filled, crate::proofs::Tested::ends_alone))]
 fn ink_some(sheet: &mut [u8], shape: Shape, ink: u8, row: usize, first: usize, last: usize)
     requires { Sheet shape sheet.old × (row < shape.height) × (first ≤ last) × (last < shape.width) }
     ensures { sheet.new ≡ paint shape ink (cells (run row first (last + 1))) sheet.old }
 {
-    let pitch = shape.pitch;
-    let start = row * pitch as usize;
+    let start = row * shape.pitch as usize;
     sheet[start + first] = ink;
     sheet[start + last] = ink;
     if first + 1 < last {
@@ -36,13 +35,13 @@ fn ink_some(sheet: &mut [u8], shape: Shape, ink: u8, row: usize, first: usize, l
 }
 
 // Inks those of a row of the moved plane that are on the sheet.
+#[tactic(auto, using(crate::proofs::Tested::part_run, crate::proofs::Tested::part_none))]
 fn ink_part(sheet: &mut [u8], shape: Shape, ink: u8, row: usize, first: usize, last: usize)
     requires { Sheet shape sheet.old × (row < shape.height) × (last ≤ 131072) }
     ensures { sheet.new ≡ paint shape ink (cells (part row first last)) sheet.old }
 {
-    let width = shape.width;
-    let from = less(first, 65536);
-    let past = smaller(less(last + 1, 65536), width as usize);
+    let from = first.saturating_sub(65536);
+    let past = (last + 1).saturating_sub(65536).min(shape.width as usize);
     if from < past {
         ink_some(sheet, shape, ink, row, from, past - 1);
     }
@@ -66,8 +65,7 @@ fn ink_both(
         ink_run(sheet, shape, ink, row, column + low, column + high + 1);
         return;
     }
-    let pitch = shape.pitch;
-    let start = row * pitch as usize;
+    let start = row * shape.pitch as usize;
     sheet[start + (column - high)] = ink;
     sheet[start + (column - low)] = ink;
     sheet[start + (column + low)] = ink;
@@ -75,6 +73,7 @@ fn ink_both(
 }
 
 // Inks the cells of a row that are low to high columns from the ring's middle: without a test, where the ring is no wider than the sheet.
+#[tactic(auto, using(crate::proofs::Tested::two_parts))]
 pub(crate) fn ink_row(
     sheet: &mut [u8],
     shape: Shape,

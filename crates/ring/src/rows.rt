@@ -50,8 +50,7 @@ pub(crate) fn upper_rows(
     let past = ring.past;
     let middle = ring.y - 65536;
     let mut outer = front;
-    let mut row = from;
-    while row < to {
+    for row in from..to {
         let y = middle - row;
         let inner = risen(a, b, 2 * y - 1, outer, past);
         ink_row(
@@ -64,7 +63,6 @@ pub(crate) fn upper_rows(
             row_end(a, b, y, inner),
         );
         outer = inner;
-        row += 1;
     }
     outer
 }
@@ -90,8 +88,7 @@ pub(crate) fn lower_rows(
     let least = ring.least;
     let middle = ring.y;
     let mut inner = front;
-    let mut row = from;
-    while row < to {
+    for row in from..to {
         let y = row + 65536 - middle;
         let outer = fallen(a, b, 2 * y + 1, least, inner);
         ink_row(
@@ -104,7 +101,6 @@ pub(crate) fn lower_rows(
             row_end(a, b, y, inner),
         );
         inner = outer;
-        row += 1;
     }
     inner
 }

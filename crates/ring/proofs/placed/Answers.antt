@@ -15,5 +15,5 @@ returns c =
     let a = c.args in
     let q = c.requires in
     placing a.shape a.centre a.a a.b q.0 q.1 q.3 q.4 _ _
-    (c.larger.ensures ∙ ap₂ max c.less.ensures c.less-2.ensures)
-    (c.smaller.ensures ∙ ap (min a.a) (c.larger-2.ensures ∙ ap₂ max c.less-3.ensures c.less-4.ensures))
+    (c.max.ensures ∙ ap₂ max c.saturating_sub.ensures c.saturating_sub-2.ensures)
+    (c.min.ensures ∙ ap (min a.a) (c.max-2.ensures ∙ ap₂ max c.saturating_sub-3.ensures c.saturating_sub-4.ensures))

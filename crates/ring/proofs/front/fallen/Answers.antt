@@ -1,8 +1,5 @@
 -- `ring::front::fallen` meets its contract: every column that is passed is outside.
-use Rattle.laws.proofs.Tests.{no}
-use mathlib.Core.Path.{◌≡◌}
-use Prim.Native.Nat.{◌+◌, ◌-◌}
-use native.Mathlib.Omega.{arith}
+use Rattle.std.proofs.Common.{◌≡◌, ◌+◌, ◌-◌, arith, sym}
 use Rattle.ring.proofs.Fronts.{front_beyond, front_join}
 use Rattle.ring.proofs.front.fallen.Goals as goal
 
@@ -10,5 +7,9 @@ pub returns-then-not-is_outside : goal.returns-then-not-is_outside
 returns-then-not-is_outside c =
     let x = c.loop-x.x in
     let e : x - 1 + 1 ≡ x = omega (arith, c.loop-x-test.true) in
-    let F = front_beyond _ _ _ c.args.least (x - 1) (omega (arith, c.loop-x.invariant.1)) (no _ _ c.is_outside.ensures c.if-not-is_outside.true-raw) in
-    front_join (rw e at F) c.loop-x.invariant.0
+    front_join (front_beyond _ _ _ c.args.least (x - 1) (omega (arith, c.loop-x-test.true)) (sym c.if-not-is_outside.ensures)) (rw (sym e) at c.loop-x.invariant.0)
+
+pub returns : goal.returns
+returns c =
+    let e : c.loop-x.x ≡ c.args.least = omega (arith, c.loop-x-test.false, c.loop-x.invariant.1) in
+    rw e at c.loop-x.invariant.0

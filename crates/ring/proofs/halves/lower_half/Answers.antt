@@ -78,6 +78,6 @@ returns c =
     let all_clauses = half_some a.shape a.ink g c.requires.sheet.1 a.from a.to _ _ near past
     (λ j u v. lower_off g.y a.from a.to j u v n.2) c.nearest_row-near.ensures c.past_furthest-past.ensures
     _ _ (part (goal.at.returns c).Else-past-near) c.if-past-near.false b c.requires.sheet.3 a.sheet.now _ c.requires.sheet.0 _ _ _
-    (rw f at c.lower_rows-last.ensures.front_of_2) (rw c.less.ensures at c.front_at-first.ensures)
+    (rw f at c.lower_rows-last.ensures.front_of_2) (rw c.saturating_sub.ensures at c.front_at-first.ensures)
     c.lower_rows-last.ensures.sheet_after (rw (c.end_after-low.ensures, c.row_end-high.ensures) at c.spread.ensures) in
     record { sheet_after = all_clauses.0; value = all_clauses.1 }

@@ -15,4 +15,4 @@ returns c =
     let a = c.args in
     let p = c.requires in
     near_found a.ring p.0 a.from a.to _ p.1 p.2 _ c.halved-front.ensures
-    (c.larger.ensures ∙ ap (max a.from) c.row_end.ensures)
+    (c.max.ensures ∙ ap (max a.from) c.row_end.ensures)

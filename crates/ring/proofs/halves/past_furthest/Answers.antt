@@ -22,4 +22,4 @@ returns c =
     let a = c.args in
     let p = c.requires in
     far_found a.ring p.0 a.from a.to _ p.1 p.2 _ (omega (arith, c.if-least-eq0.false)) c.halved-front.ensures
-    (c.smaller.ensures ∙ ap (λ (n : ℕ). min a.to (n + 1)) c.row_end.ensures)
+    (c.min.ensures ∙ ap (λ (n : ℕ). min a.to (n + 1)) c.row_end.ensures)

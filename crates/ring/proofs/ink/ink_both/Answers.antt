@@ -4,7 +4,6 @@ use native.Mathlib.Omega.{arith}
 use mathlib.Core.Path.{refl}
 use Prim.Native.Nat.{◌+◌, ◌-◌, ◌≤◌, ◌<◌}
 use Rattle.ring.proofs.ink.ink_both.Goals as goal
-use Rattle.ring.proofs.ink.ink_both.Goals.{Else-low-high}
 
 pub returns-then-low-high : goal.returns-then-low-high
 returns-then-low-high c =
@@ -13,17 +12,13 @@ returns-then-low-high c =
     two_runs a.shape a.ink a.row (a.column + 65536) a.low a.high _ _ _ p.2 a.column refl p.3
     c.ink_run.ensures c.ink_run-then-low-high.ensures
 
--- the four ends are on the sheet
-left_on : (c : Else-low-high) → let a = c.args in (a.column - a.high < a.shape.width) × (a.column - a.low < a.shape.width)
-left_on c = let p = c.requires in (omega (arith, p.4), omega (arith, p.4))
-
 pub returns : goal.returns
 returns c =
     let a = c.args in
     let p = c.requires in
     let l : a.column - a.high ≤ a.column - a.low = omega (arith, p.2) in
     let r : a.column + a.low ≤ a.column + a.high = omega (arith, p.2) in
-    let w = (left_on c).1 in
+    let w : a.column - a.low < a.shape.width = omega (arith, p.4) in
     two_runs a.shape a.ink a.row (a.column + 65536) a.low a.high _ _ _ p.2 a.column refl p.3
     (ends_alone a.shape a.ink a.row (a.column - a.high) (a.column - a.low) _ p.0 p.1 l w (omega (arith, c.if-low-high.false)))
     (ends_alone a.shape a.ink a.row (a.column + a.low) (a.column + a.high) _

@@ -1,5 +1,4 @@
 -- `ring::ink::ink_run` meets its contract.
-use Prim.Native.Nat.{◌-◌}
 use Rattle.ring.proofs.Tested.{running, runs_on}
 use Rattle.ring.proofs.ink.ink_run.Goals as goal
 

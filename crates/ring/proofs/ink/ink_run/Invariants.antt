@@ -1,10 +1,6 @@
 -- `ring::ink::ink_run` meets its contract.
-use Prim.Native.Nat.{◌-◌}
 use Rattle.ring.proofs.Tested.{Running}
 use Rattle.ring.proofs.ink.ink_run.Given as goal
 
 abbrev pub invariant-loop-at : goal.invariant-loop-at
 invariant-loop-at l = Running l.pitch l.ink l.row l.from l.past l.initial.sheet l.sheet l.at
-
-abbrev pub decreases-loop-at : goal.decreases-loop-at
-decreases-loop-at l = l.past - l.at

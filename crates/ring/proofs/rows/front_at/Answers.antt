@@ -1,8 +1,7 @@
 -- `ring::rows::front_at` meets its contract.
 use Rattle.ring.proofs.Fronts.{front_beyond}
-use Rattle.laws.proofs.Tests.{no}
 use native.Mathlib.Omega.{arith}
-use mathlib.Core.Path.{◌≡◌}
+use mathlib.Core.Path.{◌≡◌, sym}
 use Prim.Native.Nat.{◌+◌, ◌-◌}
 use Rattle.ring.proofs.rows.front_at.Goals as goal
 
@@ -11,4 +10,4 @@ returns-then-not-is_outside c =
     let g = c.args.ring in
     let e : g.past - 1 + 1 ≡ g.past = omega (arith, c.requires.0.2) in
     rw e at (front_beyond g.a g.b c.args.v g.least (g.past - 1) (omega (arith, c.requires.0.2))
-    (no _ _ c.is_outside-2.ensures c.if-not-is_outside.true-raw))
+    (sym c.if-not-is_outside.ensures))

@@ -6,6 +6,3 @@ use Rattle.ring.proofs.rows.lower_rows.Given as goal
 abbrev pub invariant-loop-row : goal.invariant-loop-row
 invariant-loop-row l =
     Inking l.shape l.ink l.ring l.from l.to (2 * (l.row + 65536 - l.middle) - 1) l.initial.sheet l.sheet l.inner l.row
-
-abbrev pub decreases-loop-row : goal.decreases-loop-row
-decreases-loop-row l = l.to - l.row

@@ -6,6 +6,3 @@ use Rattle.ring.proofs.rows.upper_rows.Given as goal
 abbrev pub invariant-loop-row : goal.invariant-loop-row
 invariant-loop-row l =
     Inking l.shape l.ink l.ring l.from l.to (2 * (l.middle - l.row) + 1) l.initial.sheet l.sheet l.outer l.row
-
-abbrev pub decreases-loop-row : goal.decreases-loop-row
-decreases-loop-row l = l.to - l.row
