@@ -1,7 +1,7 @@
 -- What a piece of a curve adds to what is drawn, its first point included: all of its line, by the second point alone where the two touch.
-use Rattle.std.proofs.Common.{◌≡◌, ℕ, ◌+◌, ◌%◌, ◌^◌, ◌<◌, ◌≤◌, Bool, true, false, ◌&&◌, ◌||◌, leb, List, sym, refl, ap, ◌∙◌, arith, le→leb, leb→le}
+use Rattle.std.proofs.Common.{◌≡◌, ℕ, ◌≤◌, Bool, true, false, ◌||◌, List, sym, refl, ap, ◌∙◌}
 use mathlib.Core.Bool.{or-false}
-use Rattle.laws.proofs.Tests.{and_l, and_r, and_i, same, from_true}
+use Rattle.laws.proofs.Tests.{from_true}
 use Rattle.sheet.specs.Sheet.{on_sheet, cell_of, is_cell, paint}
 use Rattle.sheet.specs.Repaint.{join, box_of}
 use Rattle.sheet.specs.Inner.{Sheet, unmoved_cell, inked_at, joined_at}
@@ -17,13 +17,6 @@ use Rattle.line.specs.Rule.{long, on_line}
 use Rattle.line.proofs.Ended.{line_box}
 use Rattle.line.proofs.Touching.{on_touching}
 use Rattle.curve.specs.Inner.{Adds}
-
--- the code's test of two coordinates: a + 1 less b, modulo 2^32, is 0, 1 or 2
-pub near_test : (a b d : ℕ) → a < 131072 → b < 131072 → d < 4294967296 → (d + b) % 2 ^ 32 ≡ a + 1 → leb d 2 ≡ (leb a (b + 1) && leb b (a + 1))
-near_test a b d u v w e =
-    same (leb d 2) (leb a (b + 1) && leb b (a + 1))
-    (λ t. let l = leb→le d 2 t in and_i (leb a (b + 1)) (leb b (a + 1)) (le→leb a (b + 1) (omega arith)) (le→leb b (a + 1) (omega arith)))
-    (λ t. let l = leb→le a (b + 1) (and_l (leb a (b + 1)) (leb b (a + 1)) t) in let m = leb→le b (a + 1) (and_r (leb a (b + 1)) (leb b (a + 1)) t) in le→leb d 2 (omega arith))
 
 -- a cell that a figure has adds nothing to it
 had : (f : Cell → Bool) (a d : Cell) → f a ≡ true → (f d || is_cell a d) ≡ f d

@@ -1,6 +1,6 @@
 -- The way along a curve whose control points are within the limits: its spots stand for the rule's points; and a curve that is drawn.
 use Rattle.std.proofs.Common.{◌≡◌, ℕ, ◌+◌, ◌-◌, ◌/◌, ◌^◌, ◌<◌, ◌≤◌, Bool, true, ◌&&◌, List, [], ◌∷◌, map, length, ℤ, sym, refl, ap, ◌∙◌, subst, mul-le-mul, arith}
-use mathlib.Core.Bool.{and-true}
+use Rattle.std.specs.List.{list_all}
 use lib.ListN.{length-map}
 use Rattle.sheet.specs.Sheet.{coordinate, within_limits, split, paint}
 use Rattle.sheet.specs.Repaint.{box_of}
@@ -16,22 +16,17 @@ use Rattle.sheet.proofs.Lent.{if_sheet_lem}
 use Rattle.sheet.proofs.Limits.{limit_high, limits_x, limits_y, stands_parts}
 use Rattle.curve.specs.Rule.{coordinate_at, point_at, on_curve}
 use Rattle.curve.specs.Draw.{all_within_limits, curve_answer, curve_drawing}
-use Rattle.curve.specs.Inner.{points_of, shift_of, Follows, Leads, next_way, Divides, spot_of_way}
-use Rattle.curve.specs.declared.Controls.{Controls}
-use Rattle.curve.specs.declared.Controls.TheVariants.{Three, Four}
+use Rattle.curve.specs.Inner.{shift_of, Follows, Leads, next_way, Divides, spot_of_way}
 use Rattle.curve.specs.declared.Walk.{Walk}
 use Rattle.curve.specs.declared.Way.{Way}
 use Rattle.curve.proofs.Between.{point_inside}
 use Rattle.curve.proofs.Walks.{follows_next, follows_stands}
 
--- three tests, or four, each of which is one of the control points
-pub three_in : (a b c : Cell) → (within_limits a && (within_limits b && within_limits c)) ≡ all_within_limits (a ∷ b ∷ c ∷ [])
+-- all control points pass the test of one
+pub all_in : (ps : List Cell) → list_all within_limits ps ≡ all_within_limits ps
 unfolding all_within_limits
-three_in a b c = ap (λ (t : Bool). within_limits a && (within_limits b && t)) (sym (and-true (within_limits c)))
-
-pub four_in : (a b c d : Cell) → (within_limits a && (within_limits b && (within_limits c && within_limits d))) ≡ all_within_limits (a ∷ b ∷ c ∷ d ∷ [])
-unfolding all_within_limits
-four_in a b c d = ap (λ (t : Bool). within_limits a && t) (three_in b c d)
+all_in [] = refl
+all_in (c ∷ ps) = ap (λ (t : Bool). within_limits c && t) (all_in ps)
 
 -- the way along control points is that of the same ones, lifted
 pub lifted_lead : (ps qs : List Cell) (s shift : ℕ) (x y : Walk) → ps ≡ qs
@@ -67,15 +62,6 @@ module _ (ps : List Cell) (some : 0 < length ps) (few : length ps ≤ 4) (s i : 
 
   pub way_divides : i ≤ 2 ^ s → all_within_limits ps ≡ true → Divides w.x w.shift × Divides w.y w.shift
   way_divides m e = (divides w.x (limits_x _ (spot_in m e)), divides w.y (limits_y _ (spot_in m e)))
-
--- three control points or four
-pub points_some : (c : Controls) → 0 < length (points_of c)
-points_some (Three a b c) = omega arith
-points_some (Four a b c d) = omega arith
-
-pub points_few : (c : Controls) → length (points_of c) ≤ 4
-points_few (Three a b c) = omega arith
-points_few (Four a b c d) = omega arith
 
 -- a curve within the limits, drawn on a sheet that fits
 pub curve_done : (k : Shape) (ink : ℕ) (ps : List Cell) (s : ℕ) (sheet t : List ℕ) (r : Rectangle) → fits k (length sheet) ≡ true → all_within_limits ps ≡ true

@@ -1,5 +1,5 @@
 -- No point of a curve leaves the limits, whatever the number of its control points: each coordinate lies between the least and the greatest control value.
-use Rattle.std.proofs.Common.{◌≡◌, ℕ, zero, suc, ◌-◌, ◌^◌, ◌<◌, ◌≤◌, true, ◌&&◌, List, [], ◌∷◌, map, length, get_or, ℤ, pos, negsuc, ◌≤ℤ◌, ap, ◌∙◌, subst, arith, pow_pos}
+use Rattle.std.proofs.Common.{◌≡◌, ℕ, zero, suc, ◌^◌, ◌<◌, ◌≤◌, true, ◌&&◌, List, [], ◌∷◌, map, length, get_or, ℤ, pos, negsuc, ◌≤ℤ◌, ap, ◌∙◌, subst, arith, pow_pos}
 use lib.ListN.{length-map}
 use Rattle.laws.proofs.Ints.{one_zero, from_≤ℤ, to_≤ℤ}
 use Rattle.laws.proofs.Tests.{halves}

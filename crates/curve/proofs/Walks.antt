@@ -1,6 +1,6 @@
 -- A walk: one step further it is at the next i, and where it is it holds what the terms come to.
 use Rattle.std.proofs.Common.{◌≡◌, ℕ, ◌+◌, ◌*◌, ◌/◌, ◌%◌, ◌^◌, ◌<◌, ◌≤◌, List, length, ℤ, sym, ap, ◌∙◌, mod-lt, mul-le-mul, arith}
-use native.Mathlib.Nat.{mod-mod, mod-add-mod, add-mod}
+use native.Mathlib.Nat.{mod-add-mod, add-mod}
 use Rattle.sheet.specs.Inner.{unmoved}
 use Rattle.curve.specs.Rule.{coordinate_at}
 use Rattle.curve.specs.Inner.{sum_at, changes_at, Little, Small, shift_of, Less, Walks, Follows, next_walk}
@@ -21,33 +21,6 @@ one_next a i = omega arith
 two_next : (a : Powers) (i : ℕ) → (changes_at a (i + 1)).two ≡ (changes_at a i).two + (changes_at a i).three
 unfolding changes_at
 two_next a i = omega arith
-
--- the differences at 0, as the code finds them
-pub changes_first : (a : Powers) → record { one = a.one + a.two + a.three; two = 2 * a.two + 6 * a.three; three = 6 * a.three } ≡ changes_at a 0
-unfolding changes_at
-changes_first a =
-    let e : a.one + a.two + a.three ≡ a.one + a.two * (2 * 0 + 1) + a.three * (3 * (0 * 0) + 3 * 0 + 1) = omega arith in
-    let f : 2 * a.two + 6 * a.three ≡ 2 * a.two + 6 * (a.three * (0 + 1)) = omega arith in
-    λ t. record { one = e t; two = f t; three = 6 * a.three }
-
--- a walk that begins
-pub walk_begins : (t : Terms) (g l : Powers) (u v w : ℕ) → Small t → g ≡ changes_at t.gains 0 → l ≡ changes_at t.losses 0
-    → (u + l.one) % 2 ^ 64 ≡ g.one → (v + l.two) % 2 ^ 64 ≡ g.two → (w + l.three) % 2 ^ 64 ≡ g.three
-    → Walks t 0 (record { value = t.start; first = u; second = v; third = w })
-walk_begins t g l u v w z e f a b c =
-    record {
-      value_is = ap (λ (k : ℕ). k % 2 ^ 64) (none t.start t.losses ∙ sym (none t.start t.gains));
-      first_is = less _ _ u _ _ (ap (λ (p : Powers). p.one) e) (ap (λ (p : Powers). p.one) f) a;
-      second_is = less _ _ v _ _ (ap (λ (p : Powers). p.two) e) (ap (λ (p : Powers). p.two) f) b;
-      third_is = less _ _ w _ _ (ap (λ (p : Powers). p.three) e) (ap (λ (p : Powers). p.three) f) c;
-      held = omega (arith, z.start_low);
-    }
-  where
-    none : (k : ℕ) (a : Powers) → k + sum_at a 0 ≡ k
-    none k a = omega arith
-
-    less : (g l u g' l' : ℕ) → g ≡ g' → l ≡ l' → (u + l) % 2 ^ 64 ≡ g → Less g' l' u
-    less g l u g' l' e f a = ap (λ (k : ℕ). (u + k) % 2 ^ 64) (sym f) ∙ sym (mod-mod (u + l) (2 ^ 64)) ∙ ap (λ (k : ℕ). k % 2 ^ 64) (a ∙ e)
 
 -- differences add up, modulo 2^64
 less_sum : (a b w c d v a' b' : ℕ) → Less a b w → Less c d v → a' ≡ a + c → b' ≡ b + d → Less a' b' ((w + v) % 2 ^ 64)

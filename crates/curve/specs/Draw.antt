@@ -5,7 +5,7 @@ use Rattle.sheet.specs.Reply.{Answer, done, unless}
 use Rattle.sheet.specs.Drawing.{Drawing, only, if_sheet}
 use Rattle.sheet.specs.declared.Cell.{Cell}
 use Rattle.sheet.specs.declared.Shape.{Shape}
-use Rattle.sheet.specs.declared.Refusal.TheVariants.{Coordinate, Pieces}
+use Rattle.sheet.specs.declared.refusal.Refusal.TheVariants.{Coordinate, Pieces}
 use Rattle.curve.specs.Rule.{on_curve}
 
 -- all control points are within the limits

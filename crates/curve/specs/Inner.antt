@@ -1,5 +1,5 @@
 -- The points on the moved plane, as the code finds them: by a sum of powers of i, and its differences.
-use Rattle.std.specs.Prelude.{◌≡◌, ℕ, ◌+◌, ◌-◌, ◌*◌, ◌/◌, ◌%◌, ◌^◌, ◌<◌, ◌≤◌, Bool, true, ◌||◌, List, [], ◌∷◌, map, length, ℤ}
+use Rattle.std.specs.Prelude.{◌≡◌, ℕ, ◌+◌, ◌-◌, ◌*◌, ◌/◌, ◌%◌, ◌^◌, ◌<◌, ◌≤◌, Bool, true, ◌||◌, List, map, length, ℤ}
 use Rattle.sheet.specs.Sheet.{paint}
 use Rattle.sheet.specs.Repaint.{box_of}
 use Rattle.sheet.specs.Inner.{unmoved}
@@ -8,16 +8,14 @@ use Rattle.sheet.specs.declared.Shape.{Shape}
 use Rattle.sheet.specs.declared.Spot.{Spot}
 use Rattle.sheet.specs.declared.repaint.Rectangle.{Rectangle}
 use Rattle.curve.specs.Rule.{coordinate_at}
-use Rattle.curve.specs.declared.Controls.{Controls}
-use Rattle.curve.specs.declared.Controls.TheVariants.{Three, Four}
 use Rattle.curve.specs.declared.Powers.{Powers}
 use Rattle.curve.specs.declared.Terms.{Terms}
 use Rattle.curve.specs.declared.Walk.{Walk}
 use Rattle.curve.specs.declared.Way.{Way}
 
-abbrev pub points_of : Controls → List Cell
-points_of (Three a b c) = a ∷ b ∷ c ∷ []
-points_of (Four a b c d) = a ∷ b ∷ c ∷ d ∷ []
+-- as many control points as a quadratic or a cubic curve has
+abbrev pub ThreeOrFour : List Cell → Type 0
+ThreeOrFour ps = (3 ≤ length ps) × (length ps ≤ 4)
 
 -- a sum at i, and its differences there: how much it grows to the next i, how much that growth does, and how much that one's
 abbrev pub sum_at : Powers → ℕ → ℕ

@@ -2,27 +2,21 @@
 #![tactic(auto)]
 
 ghost use Rattle.std.specs.Prelude.{◌≡◌, ◌+◌, ◌/◌, ◌^◌, ◌<◌, ◌≤◌, true, ◌&&◌, [], ◌∷◌, nat_le};
+ghost use Rattle.std.specs.List.{list_all};
 ghost use Rattle.sheet.specs.Sheet.{within_limits, paint};
 ghost use Rattle.sheet.specs.Repaint.{box_of};
-ghost use Rattle.sheet.specs.Reply.{told_drawn};
+ghost use Rattle.sheet.specs.Reply.{told, drawn_answer};
 ghost use Rattle.sheet.specs.Drawing.{Draws};
 ghost use Rattle.sheet.specs.Inner.{Moved, Sheet, unmoved, unmoved_cell};
 ghost use Rattle.line.specs.Rule.{on_line};
 ghost use Rattle.curve.specs.Rule.{on_curve};
 ghost use Rattle.curve.specs.Draw.{all_within_limits, curve_drawing};
-ghost use Rattle.curve.specs.Inner.{points_of, changes_at, Little, Small, Walks, next_walk, Follows, next_way, Leads, Divides, spot_of_way, Adds};
+ghost use Rattle.curve.specs.Inner.{ThreeOrFour, changes_at, Little, Small, Walks, next_walk, Follows, next_way, Leads, Divides, spot_of_way, Adds};
 
-use sheet::{Cell, Drawn, Rectangle, Refusal, Reply, Shape, Spot};
-
-// The control points of a curve.
-#[derive(Clone, Copy)]
-enum Controls {
-    Three(Cell, Cell, Cell),
-    Four(Cell, Cell, Cell, Cell),
-}
+use sheet::{Cell, Drawn, Rectangle, Refusal, Shape, Spot};
 
 // A sum of so many times i, i² and i³.
-#[derive(Clone, Copy)]
+#[derive(Clone, Copy, Debug, PartialEq, Eq, Hash)]
 struct Powers {
     one: u64,
     two: u64,
@@ -30,7 +24,7 @@ struct Powers {
 }
 
 // One moved coordinate along a curve, not yet divided: what it is at 0, and what it has gained and lost at i.
-#[derive(Clone, Copy)]
+#[derive(Clone, Copy, Debug, PartialEq, Eq, Hash)]
 struct Terms {
     start: u64,
     gains: Powers,
@@ -38,7 +32,7 @@ struct Terms {
 }
 
 // The same at some i, and its differences there, modulo 2^64.
-#[derive(Clone, Copy)]
+#[derive(Clone, Copy, Debug, PartialEq, Eq, Hash)]
 struct Walk {
     value: u64,
     first: u64,
@@ -47,7 +41,7 @@ struct Walk {
 }
 
 // Both coordinates, and the shift that divides them.
-#[derive(Clone, Copy)]
+#[derive(Clone, Copy, Debug, PartialEq, Eq, Hash)]
 struct Way {
     x: Walk,
     y: Walk,
@@ -55,6 +49,7 @@ struct Way {
 }
 
 // How many pieces a curve is split into.
+#[tactic(auto, using(crate::proofs::Fits::pieces_is, crate::proofs::Fits::pieces_low))]
 fn pieces(s: u32) -> u32
     requires { s ≤ 6 }
     ensures { (result ≡ 2 ^ s) × (result ≤ 64) }
@@ -63,6 +58,7 @@ fn pieces(s: u32) -> u32
 }
 
 // How much a sum grows from 0 to 1, how much that growth does, and how much that one's.
+#[tactic(auto, unfolding(crate::specs::Inner::changes_at))]
 fn changes(sum: Powers) -> Powers
     requires { Little sum }
     ensures { result ≡ changes_at sum 0 }
@@ -85,13 +81,14 @@ fn begin(terms: Terms) -> Walk
     let lost = changes(terms.losses);
     Walk {
         value: terms.start,
-        first: std::num::wrapping_sub_u64(gained.one, lost.one),
-        second: std::num::wrapping_sub_u64(gained.two, lost.two),
-        third: std::num::wrapping_sub_u64(gained.three, lost.three),
+        first: gained.one.wrapping_sub(lost.one),
+        second: gained.two.wrapping_sub(lost.two),
+        third: gained.three.wrapping_sub(lost.three),
     }
 }
 
 // The walk one further.
+#[tactic(auto, unfolding(crate::specs::Inner::next_walk))]
 fn next(walk: Walk) -> Walk
     ensures { result ≡ next_walk walk }
 {
@@ -99,14 +96,14 @@ fn next(walk: Walk) -> Walk
     let second = walk.second;
     let third = walk.third;
     Walk {
-        value: std::num::wrapping_add_u64(walk.value, first),
-        first: std::num::wrapping_add_u64(first, second),
-        second: std::num::wrapping_add_u64(second, third),
+        value: walk.value.wrapping_add(first),
+        first: first.wrapping_add(second),
+        second: second.wrapping_add(third),
         third,
     }
 }
 
-// The walk along a coordinate of three moved control values, at the first point.
+// The walk along a coordinate of three moved control values, at the first point. Its polynomial is another than that of four.
 fn quadratic(p: u32, q: u32, r: u32, s: u32) -> Walk
     requires { Moved p × Moved q × Moved r × (s ≤ 6) }
     ensures { Follows (unmoved p ∷ unmoved q ∷ unmoved r ∷ []) s 0 result }
@@ -188,13 +185,14 @@ fn by_four(p0: Cell, p1: Cell, p2: Cell, p3: Cell, s: u32) -> Way
 }
 
 // The way along a curve, at its first point.
-fn way_of(controls: Controls, s: u32) -> Way
-    requires { (all_within_limits (points_of controls) ≡ true) × (s ≤ 6) }
-    ensures { Leads (points_of controls) s 0 result }
+fn way_of(points: &[Cell], s: u32) -> Way
+    requires { ThreeOrFour points.now × (all_within_limits points.now ≡ true) × (s ≤ 6) }
+    ensures { Leads points.now s 0 result }
 {
-    match controls {
-        Controls::Three(p0, p1, p2) => by_three(p0, p1, p2, s),
-        Controls::Four(p0, p1, p2, p3) => by_four(p0, p1, p2, p3, s),
+    match *points {
+        [p0, p1, p2] => by_three(p0, p1, p2, s),
+        [p0, p1, p2, p3] => by_four(p0, p1, p2, p3, s),
+        _ => unreachable!(),
     }
 }
 
@@ -235,7 +233,17 @@ fn near(a: u32, b: u32) -> bool
     requires { (a < 131072) × (b < 131072) }
     ensures { result ≡ (nat_le a (b + 1) && nat_le b (a + 1)) }
 {
-    std::num::wrapping_sub_u32(a + 1, b) <= 2
+    (a + 1).wrapping_sub(b) <= 2
+}
+
+// The rectangle of a drawing: that of no cell, where it is refused. One join for both keeps the walk's rectangle in registers.
+fn rectangle_of(drawn: Result<Drawn, Refusal>) -> Rectangle
+    ensures { result ≡ (told drawn_answer drawn).box }
+{
+    match drawn {
+        Ok(drawn) => drawn.rectangle,
+        Err(_) => Rectangle::none(),
+    }
 }
 
 // Draws the line between two points within the limits, of which the first is drawn: where they touch, or are one, the second. Answers the
@@ -267,22 +275,22 @@ fn piece(
         pitch: shape.pitch,
     };
     let drawn = line::draw_between(sheet, own, ink, from, to);
-    rectangle.join(drawn.rectangle)
+    rectangle.join(rectangle_of(drawn))
 }
 
 // Draws the first point, and the lines between each point and the next.
-fn join(sheet: &mut [u8], shape: Shape, ink: u8, controls: Controls, s: u32) -> Rectangle
-    requires { Sheet shape sheet.old × (all_within_limits (points_of controls) ≡ true) × (s ≤ 6) }
-    ensures sheet_after { sheet.new ≡ paint shape ink (on_curve (points_of controls) s) sheet.old }
-    ensures value { result ≡ box_of shape (on_curve (points_of controls) s) }
+fn join(sheet: &mut [u8], shape: Shape, ink: u8, points: &[Cell], s: u32) -> Rectangle
+    requires { Sheet shape sheet.old × ThreeOrFour points.now × (all_within_limits points.now ≡ true) × (s ≤ 6) }
+    ensures sheet_after { sheet.new ≡ paint shape ink (on_curve points.now s) sheet.old }
+    ensures value { result ≡ box_of shape (on_curve points.now s) }
 {
-    let mut left = pieces(s);
-    let mut way = way_of(controls, s);
+    let count = pieces(s);
+    let mut way = way_of(points, s);
     let mut from = spot_of(way);
     sheet::ink_at(sheet, shape, ink, from);
     let mut rectangle = sheet::join_at(shape, from, Rectangle::none());
-    while 0 < left {
-        left -= 1;
+    // Counted down: for a count up to 2^s the compiler tests i >> s at each piece.
+    for _left in (0..count).rev() {
         way = advanced(way);
         let to = spot_of(way);
         rectangle = piece(sheet, shape, ink, from, to, rectangle);
@@ -292,41 +300,34 @@ fn join(sheet: &mut [u8], shape: Shape, ink: u8, controls: Controls, s: u32) -> 
 }
 
 // Whether all control points are within the limits.
-fn in_limits(controls: Controls) -> bool
-    ensures { result ≡ all_within_limits (points_of controls) }
+fn in_limits(points: &[Cell]) -> bool
+    ensures { result ≡ list_all within_limits points.now }
 {
-    match controls {
-        Controls::Three(p0, p1, p2) => {
-            sheet::in_limits(p0) & (sheet::in_limits(p1) & sheet::in_limits(p2))
-        }
-        Controls::Four(p0, p1, p2, p3) => {
-            sheet::in_limits(p0)
-                & (sheet::in_limits(p1) & (sheet::in_limits(p2) & sheet::in_limits(p3)))
-        }
-    }
+    points.iter().all(|p| sheet::in_limits(*p))
 }
 
 // Draws the curve with these control points, split into 2^s pieces.
-fn draw(sheet: &mut [u8], shape: Shape, ink: u8, controls: Controls, s: u32) -> Drawn
-    ensures { Draws (curve_drawing shape ink (points_of controls) s) sheet.old (told_drawn result) sheet.new }
+fn draw(sheet: &mut [u8], shape: Shape, ink: u8, points: &[Cell], s: u32) -> Result<Drawn, Refusal>
+    requires { ThreeOrFour points.now }
+    ensures { Draws (curve_drawing shape ink points.now s) sheet.old (told drawn_answer result) sheet.new }
 {
-    let tested = sheet::check(shape, sheet.len());
-    if !tested.is_done() {
-        return sheet::undrawn(tested);
-    }
-    if !in_limits(controls) {
-        return sheet::undrawn(Reply::Refused(Refusal::Coordinate));
+    shape.check(sheet.len())?;
+    if !in_limits(points) {
+        return Err(Refusal::Coordinate);
     }
     if !sheet::is_split(s) {
-        return sheet::undrawn(Reply::Refused(Refusal::Pieces));
+        return Err(Refusal::Pieces);
     }
-    Drawn {
-        reply: Reply::Done,
-        rectangle: join(sheet, shape, ink, controls, s),
-    }
+    Ok(Drawn {
+        count: None,
+        rectangle: join(sheet, shape, ink, points, s),
+    })
 }
 
-// Draws a quadratic curve.
+/// Draws a quadratic curve, of three control points, split into 2^s pieces.
+///
+/// It is refused, and the sheet left as it was, for a slice that is no sheet of the shape (`Size`, `Slice`), for a control point outside the
+/// limits (`Coordinate`), and for an s above 6 (`Pieces`), in this order.
 pub fn draw_curve(
     sheet: &mut [u8],
     shape: Shape,
@@ -335,13 +336,13 @@ pub fn draw_curve(
     p1: Cell,
     p2: Cell,
     s: u32,
-) -> Drawn
-    ensures { Draws (curve_drawing shape ink (p0 ∷ p1 ∷ p2 ∷ []) s) sheet.old (told_drawn result) sheet.new }
+) -> Result<Drawn, Refusal>
+    ensures { Draws (curve_drawing shape ink (p0 ∷ p1 ∷ p2 ∷ []) s) sheet.old (told drawn_answer result) sheet.new }
 {
-    draw(sheet, shape, ink, Controls::Three(p0, p1, p2), s)
+    draw(sheet, shape, ink, &[p0, p1, p2], s)
 }
 
-// Draws a cubic curve.
+/// Draws a cubic curve, of four control points, split into 2^s pieces. It is refused as a quadratic one is.
 pub fn draw_cubic(
     sheet: &mut [u8],
     shape: Shape,
@@ -351,8 +352,8 @@ pub fn draw_cubic(
     p2: Cell,
     p3: Cell,
     s: u32,
-) -> Drawn
-    ensures { Draws (curve_drawing shape ink (p0 ∷ p1 ∷ p2 ∷ p3 ∷ []) s) sheet.old (told_drawn result) sheet.new }
+) -> Result<Drawn, Refusal>
+    ensures { Draws (curve_drawing shape ink (p0 ∷ p1 ∷ p2 ∷ p3 ∷ []) s) sheet.old (told drawn_answer result) sheet.new }
 {
-    draw(sheet, shape, ink, Controls::Four(p0, p1, p2, p3), s)
+    draw(sheet, shape, ink, &[p0, p1, p2, p3], s)
 }

@@ -4,18 +4,18 @@ use Rattle.sheet.specs.Sheet.{within_limits}
 use Rattle.sheet.specs.Inner.{unmoved_cell}
 use Rattle.sheet.specs.declared.Cell.{Cell}
 use Rattle.curve.specs.Rule.{point_at}
-use Rattle.curve.specs.Inner.{points_of, Leads}
+use Rattle.curve.specs.Inner.{Leads}
 use Rattle.curve.specs.declared.Way.{Way}
-use Rattle.curve.proofs.Answers.{points_some, points_few, leads_next, spot_stands, way_divides}
+use Rattle.curve.proofs.Answers.{leads_next, spot_stands, way_divides}
 use Rattle.curve.proofs.Between.{point_inside}
 use Rattle.curve.proofs.Joining.{Begun, Joining, points, begins, turn, ends}
 use Rattle.curve.proofs.join.Goals as goal
 use Rattle.curve.proofs.join.Goals.{After-advanced-way, After-spot_of-from, After-way_of-way, At-loop-left, In-loop-left}
 
-begun : (c : After-way_of-way) → let a = c.args in Begun (points_of a.controls) a.s c.way_of-way.result
+begun : (c : After-way_of-way) → let a = c.args in Begun a.points.now a.s c.way_of-way.result
 begun c =
-    let k = c.args.controls in
-    record { some = points_some k; few = points_few k; inside = c.requires.1; split = c.requires.2; leads = c.way_of-way.ensures }
+    let p = c.requires in
+    record { some = omega (arith, p.1.0); few = p.1.1; inside = p.2; split = p.3; leads = c.way_of-way.ensures }
 
 pub spot_of-from-requires : goal.spot_of-from-requires
 spot_of-from-requires c =
@@ -30,9 +30,9 @@ first_spot c ps b = ap unmoved_cell c.spot_of-from.ensures ∙ spot_stands ps b.
 pub loop-left-init : goal.loop-left-init
 loop-left-init c =
     let a = c.args in (
-      omega (arith, c.pieces-left.ensures.0),
+      omega (arith, c.pieces-count.ensures.0),
       λ ps before b g.
-          begins a.shape a.ink ps a.s before _ c.way_of-way.result c.spot_of-from.result _ _ (omega (arith, c.pieces-left.ensures.0))
+          begins a.shape a.ink ps a.s before _ c.way_of-way.result c.spot_of-from.result _ _ (omega (arith, c.pieces-count.ensures.0))
           g b.leads (first_spot (goal.at.loop-left-init c).After-spot_of-from ps b),
     )
 
@@ -41,7 +41,7 @@ advanced-way-requires c = tt
 
 -- how many pieces are joined
 abbrev gone : At-loop-left → ℕ
-gone c = 2 ^ c.args.s - c.loop-left.left
+gone c = 2 ^ c.args.s - c.loop-left._left
 
 further : (c : After-advanced-way) (ps : List Cell) → let a = c.args in
     Begun ps a.s c.way_of-way.result → Leads ps a.s (gone (goal.at.spot_of-to-requires c).At-loop-left) c.loop-left.way → Leads ps a.s (gone (goal.at.spot_of-to-requires c).At-loop-left + 1) c.advanced-way.result
@@ -49,10 +49,10 @@ further c ps b g =
     let s = c.args.s in
     subst (λ (w : Way). Leads ps s (gone (goal.at.spot_of-to-requires c).At-loop-left + 1) w) (sym c.advanced-way.ensures) (leads_next ps b.some b.few s (gone (goal.at.spot_of-to-requires c).At-loop-left) c.loop-left.way g b.split)
 
-begun_2 : (c : At-loop-left) → let a = c.args in Begun (points_of a.controls) a.s c.way_of-way.result
+begun_2 : (c : At-loop-left) → let a = c.args in Begun a.points.now a.s c.way_of-way.result
 begun_2 c =
-    let k = c.args.controls in
-    record { some = points_some k; few = points_few k; inside = c.requires.1; split = c.requires.2; leads = c.way_of-way.ensures }
+    let p = c.requires in
+    record { some = omega (arith, p.1.0); few = p.1.1; inside = p.2; split = p.3; leads = c.way_of-way.ensures }
 
 first_spot_2 : (c : At-loop-left) (ps : List Cell) → Begun ps c.args.s c.way_of-way.result
     → unmoved_cell c.spot_of-from.result ≡ point_at ps (2 ^ c.args.s) 0
@@ -60,10 +60,10 @@ first_spot_2 c ps b = ap unmoved_cell c.spot_of-from.ensures ∙ spot_stands ps 
 
 -- what the loop has joined
 joined : (c : At-loop-left) → let l = c.loop-left in let a = c.args in
-    Joining a.shape a.ink (points_of a.controls) a.s a.sheet.now l.sheet l.way l.from l.rectangle (gone c)
+    Joining a.shape a.ink a.points.now a.s a.sheet.now l.sheet l.way l.from l.rectangle (gone c)
 joined c =
     let b = begun_2 c in
-    c.loop-left.invariant.1 (points_of c.args.controls) c.args.sheet.now b
+    c.loop-left.invariant.1 c.args.points.now c.args.sheet.now b
     (points c.args.shape c.args.ink _ c.args.s _ _ c.spot_of-from.result _ _ c.requires.0 (first_spot_2 c _ b)
     c.ink_at.ensures c.none.ensures c.join_at-rectangle.ensures)
 

@@ -1,5 +1,5 @@
 -- `curve::piece` meets its contract.
-use Rattle.std.proofs.Common.{ℕ, ◌≤◌, Bool, cond, List, length, sym, ap, ◌∙◌, arith}
+use Rattle.std.proofs.Common.{◌≡◌, ℕ, ◌≤◌, Bool, true, cond, List, length, sym, ap, ◌∙◌, arith}
 use Rattle.laws.proofs.Tests.{halves}
 use Rattle.sheet.specs.Sheet.{paint}
 use Rattle.sheet.specs.Repaint.{join}
@@ -11,7 +11,7 @@ use Rattle.line.proofs.Short.{short_on_lem}
 use Rattle.line.proofs.Touching.{spots_touch}
 use Rattle.curve.proofs.Adding.{near_adds, short_adds, part_adds}
 use Rattle.curve.proofs.piece.Goals as goal
-use Rattle.curve.proofs.piece.Goals.{Then-near}
+use Rattle.curve.proofs.piece.Goals.{Then-near, Else-draw_short}
 
 pub near-requires : goal.near-requires
 near-requires c =
@@ -46,16 +46,25 @@ returns-then-draw_short c =
     short_adds a.shape a.ink a.from a.to s _ a.rectangle _ c.requires.sheet (short_on_lem _ _ _ _ (sym c.draw_short.ensures.value ∙ c.if-draw_short.true))
     (c.draw_short.ensures.sheet_after ∙ ap (λ (t : Bool). cond t (paint a.shape a.ink line s) s) c.if-draw_short.true) c.join_at-then-draw_short.ensures
 
+-- the short line that was not drawn leaves the sheet as it was
+same : (c : Else-draw_short) → c.draw_short.new.sheet ≡ c.args.sheet.now
+same c =
+    let a = c.args in
+    let s = a.sheet.now in
+    c.draw_short.ensures.sheet_after ∙ ap (λ (t : Bool). cond t (paint a.shape a.ink (on_line (unmoved_cell a.from) (unmoved_cell a.to)) s) s) c.if-draw_short.false
+
+fit : (c : Else-draw_short) → fits c.args.shape (length c.draw_short.new.sheet) ≡ true
+fit c = ap (λ (u : List ℕ). fits c.args.shape (length u)) (same c) ∙ sheet_fits c.args.shape c.args.sheet.now c.requires.sheet
+
 pub returns : goal.returns
 returns c =
     let a = c.args in
     let k = a.shape in
-    let s = a.sheet.now in
     let from = unmoved_cell a.from in
     let to = unmoved_cell a.to in
-    let same = c.draw_short.ensures.sheet_after ∙ ap (λ (t : Bool). cond t (paint k a.ink (on_line from to) s) s) c.if-draw_short.false in
-    let fit = ap (λ (u : List ℕ). fits k (length u)) same ∙ sheet_fits k s c.requires.sheet in
+    let at = (goal.at.returns c).Else-draw_short in
+    let w = c.requires.from_value in
     let told = c.draw_between-drawn.ensures in
-    part_adds k a.ink from to s _ a.rectangle _
-    (line_drawn k from to a.ink _ _ _ fit c.requires.from_value.0 c.requires.from_value.1 told ∙ ap (paint k a.ink (on_line from to)) same)
-    (c.join.ensures ∙ ap (join a.rectangle) (line_told_box k from to a.ink _ _ _ fit c.requires.from_value.0 c.requires.from_value.1 told))
+    part_adds k a.ink from to a.sheet.now _ a.rectangle _
+    (line_drawn k from to a.ink _ _ _ (fit at) w.0 w.1 told ∙ ap (paint k a.ink (on_line from to)) (same at))
+    (c.join.ensures ∙ ap (join a.rectangle) (c.rectangle_of.ensures ∙ line_told_box k from to a.ink _ _ _ (fit at) w.0 w.1 told))
