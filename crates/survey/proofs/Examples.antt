@@ -5,12 +5,12 @@ use mathlib.Core.Bool.{true, false}
 use lib.Dec.{T}
 use lib.IntN.{ℤ, pos, negsuc, neg_ℤ, nat_abs}
 use lib.Ieee.{Float, binary64, of_int, neg, sub, div, le, lt}
+use Rattle.std.specs.Prelude.{Ok, Err}
 use Rattle.sheet.specs.Sheet.{coordinate, semi_axis}
-use Rattle.sheet.specs.Reply.{Answer, done, refuse}
-use Rattle.sheet.specs.declared.Refusal.TheVariants as refusal
+use Rattle.sheet.specs.Reply.{Answer, done, refuse, told}
+use Rattle.sheet.specs.declared.refusal.Refusal.TheVariants as refusal
 use Rattle.survey.specs.Cell.{is_cell_of, found_cell}
-use Rattle.survey.specs.Metres.{sound, eastward, northward, found_length, are_semi_axes, in_cells, told_in_cells}
-use Rattle.survey.specs.declared.Found.TheVariants.{At, NoCell}
+use Rattle.survey.specs.Metres.{sound, eastward, northward, found_length, are_semi_axes, in_cells, figure_answer}
 use Rattle.survey.specs.declared.Survey.{Survey}
 use Rattle.survey.specs.declared.Metres.{Metres}
 use Rattle.survey.specs.declared.Metres.TheVariants.{Line, Circle, Ellipse}
@@ -58,35 +58,35 @@ table =
 -- each row's reply is the one that the table gives
 abbrev pub Hold : List Row → Type 0
 Hold [] = T true
-Hold (r ∷ rows) = (told_in_cells (in_cells r.survey r.figure) ≡ r.answer) × Hold rows
+Hold (r ∷ rows) = (told figure_answer (in_cells r.survey r.figure) ≡ r.answer) × Hold rows
 
 -- and there is none, where q is not below 16,384
-far : (q : Float) → lt q (of_int binary64 (pos 16384)) ≡ false → found_cell q ≡ NoCell
+far : (q : Float) → lt q (of_int binary64 (pos 16384)) ≡ false → found_cell q ≡ Err refusal.NoCell
 far q e = sym (found_none q (none_high q (of_int binary64 (pos 16384)) refl e))
 
 -- a sound survey's reply, from the cells of the fields
 module _ (s : Survey) (ok : sound s ≡ true) where
-  line_told : (x0 y0 x1 y1 : Float) (i j k l : ℤ) → eastward s x0 ≡ At i → northward s y0 ≡ At j → eastward s x1 ≡ At k → northward s y1 ≡ At l
-      → told_in_cells (in_cells s (Line x0 y0 x1 y1)) ≡ done (pos 1 ∷ i ∷ j ∷ k ∷ l ∷ [])
+  line_told : (x0 y0 x1 y1 : Float) (i j k l : ℤ) → eastward s x0 ≡ Ok i → northward s y0 ≡ Ok j → eastward s x1 ≡ Ok k → northward s y1 ≡ Ok l
+      → told figure_answer (in_cells s (Line x0 y0 x1 y1)) ≡ done (pos 1 ∷ i ∷ j ∷ k ∷ l ∷ [])
   unfolding in_cells
   line_told x0 y0 x1 y1 i j k l a b c d = simp (ok, a, b, c, d)
 
-  ellipse_told : (x y m n : Float) (i j k l : ℤ) → eastward s x ≡ At i → northward s y ≡ At j → found_length m s.size ≡ At k → found_length n s.size ≡ At l
-      → are_semi_axes k l ≡ true → told_in_cells (in_cells s (Ellipse x y m n)) ≡ done (pos 3 ∷ i ∷ j ∷ pos (nat_abs k) ∷ pos (nat_abs l) ∷ [])
+  ellipse_told : (x y m n : Float) (i j k l : ℤ) → eastward s x ≡ Ok i → northward s y ≡ Ok j → found_length m s.size ≡ Ok k → found_length n s.size ≡ Ok l
+      → are_semi_axes k l ≡ true → told figure_answer (in_cells s (Ellipse x y m n)) ≡ done (pos 3 ∷ i ∷ j ∷ pos (nat_abs k) ∷ pos (nat_abs l) ∷ [])
   unfolding in_cells
   ellipse_told x y m n i j k l a b c d e = simp (ok, a, b, c, d, e)
 
-  ellipse_refused : (x y m n : Float) (i j k l : ℤ) → eastward s x ≡ At i → northward s y ≡ At j → found_length m s.size ≡ At k → found_length n s.size ≡ At l
-      → are_semi_axes k l ≡ false → told_in_cells (in_cells s (Ellipse x y m n)) ≡ refuse refusal.Radius
+  ellipse_refused : (x y m n : Float) (i j k l : ℤ) → eastward s x ≡ Ok i → northward s y ≡ Ok j → found_length m s.size ≡ Ok k → found_length n s.size ≡ Ok l
+      → are_semi_axes k l ≡ false → told figure_answer (in_cells s (Ellipse x y m n)) ≡ refuse refusal.Radius
   unfolding in_cells
   ellipse_refused x y m n i j k l a b c d e = simp (ok, a, b, c, d, e)
 
-  circle_told : (x y r : Float) (i j k : ℤ) → eastward s x ≡ At i → northward s y ≡ At j → found_length r s.size ≡ At k
-      → are_semi_axes k k ≡ true → told_in_cells (in_cells s (Circle x y r)) ≡ done (pos 3 ∷ i ∷ j ∷ pos (nat_abs k) ∷ pos (nat_abs k) ∷ [])
+  circle_told : (x y r : Float) (i j k : ℤ) → eastward s x ≡ Ok i → northward s y ≡ Ok j → found_length r s.size ≡ Ok k
+      → are_semi_axes k k ≡ true → told figure_answer (in_cells s (Circle x y r)) ≡ done (pos 3 ∷ i ∷ j ∷ pos (nat_abs k) ∷ pos (nat_abs k) ∷ [])
   unfolding in_cells
   circle_told x y r i j k a b c e = simp (ok, a, b, c, e)
 
-  circle_refused : (x y r : Float) → eastward s x ≡ NoCell → told_in_cells (in_cells s (Circle x y r)) ≡ refuse refusal.NoCell
+  circle_refused : (x y r : Float) → eastward s x ≡ Err refusal.NoCell → told figure_answer (in_cells s (Circle x y r)) ≡ refuse refusal.NoCell
   unfolding in_cells
   circle_refused x y r a = simp (ok, a)
 

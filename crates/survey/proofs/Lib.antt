@@ -5,5 +5,4 @@ mod Lengths
 pub mod Within
 pub mod Origin
 pub mod Unique
-mod Figures
 pub mod Examples

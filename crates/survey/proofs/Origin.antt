@@ -12,12 +12,13 @@ use lib.Ieee.Fits.{down_pos}
 use lib.Ieee.Scale.{round_same, finite}
 use lib.Ieee.Positive.{first_pos}
 use Rattle.laws.proofs.Tests.{and_l, and_r}
+use Rattle.std.specs.Prelude.{Ok}
+use Rattle.std.specs.Float.{float_is_finite}
 use Rattle.sheet.specs.Sheet.{coordinate}
 use Rattle.survey.specs.Cell.{is_cell_of, found_cell}
 use Rattle.survey.specs.Metres.{sound, found_coordinate, eastward, northward}
-use Rattle.survey.specs.declared.Found.TheVariants.{At}
 use Rattle.survey.specs.declared.Survey.{Survey}
-use Rattle.survey.proofs.Order.{eq_to, eq_of}
+use Rattle.survey.proofs.Order.{eq_to}
 use Rattle.survey.proofs.Cells.{cell_is}
 
 -- +0 or −0
@@ -69,29 +70,29 @@ div_zero x (fin false n d) (zero s) f l =
     rw (ne_eqb n 0 (λ e. omega arith)) (is_zero (unlike s false) (0 * 1 * down d) (n * up d * 1) (omega arith) h)
 
 -- zero is in cell 0
-zero_cell : (x : Float) → Zero x → found_cell x ≡ At (pos 0)
+zero_cell : (x : Float) → Zero x → found_cell x ≡ Ok (pos 0)
 unfolding coordinate is_cell_of of_int le lt
 zero_cell x (zero true) = cell_is (fin true 0 (pos 0)) (pos 0) tt tt
 zero_cell x (zero false) = cell_is (fin false 0 (pos 0)) (pos 0) tt tt
 
--- zero passes the code's test, so x - x passes it exactly where x is finite
-zero_eq : (x : Float) → Zero x → eq x (of_bits binary64 0) ≡ true
-unfolding eq of_bits
-zero_eq x (zero true) = refl
-zero_eq x (zero false) = refl
+-- std's test is that of the rule
+pub finite_is : (x : Float) → float_is_finite x ≡ finite x
+unfolding float_is_finite
+finite_is nan = refl
+finite_is (inf s) = refl
+finite_is (fin s m e) = refl
 
-pub self_test : (x : Float) → eq (sub binary64 x x) (of_bits binary64 0) ≡ finite x
-self_test nan = unfold eq sub of_bits in refl
-self_test (inf true) = unfold eq sub of_bits in refl
-self_test (inf false) = unfold eq sub of_bits in refl
-self_test (fin s m e) = zero_eq (sub binary64 (fin s m e) (fin s m e)) (sub_zero (fin s m e) (fin s m e) (unfold eq in eq_of s (m * up e * down e) s (m * up e * down e) refl) tt)
+-- and so is its zero
+pub zero_is : of_bits binary64 0 ≡ of_int binary64 (pos 0)
+unfolding of_bits of_int
+zero_is = refl
 
 -- a position that compares equal to a finite origin, −0.0 to 0.0 too, by a finite size above zero
-origin_cell : (p o size : Float) → T (eq p o) → T (finite o) → T (finite size) → T (lt (of_int binary64 (pos 0)) size) → found_coordinate p o size ≡ At (pos 0)
+origin_cell : (p o size : Float) → T (eq p o) → T (finite o) → T (finite size) → T (lt (of_int binary64 (pos 0)) size) → found_coordinate p o size ≡ Ok (pos 0)
 origin_cell p o size t f g l = zero_cell (div binary64 (sub binary64 p o) size) (div_zero (sub binary64 p o) size (sub_zero p o t f) g l)
 
 -- A position equal to its origin has cell 0, in every sound survey.
-pub origin_east : (s : Survey) (p : Float) → T (sound s) → T (eq p s.east) → eastward s p ≡ At (pos 0)
+pub origin_east : (s : Survey) (p : Float) → T (sound s) → T (eq p s.east) → eastward s p ≡ Ok (pos 0)
 unfolding sound
 origin_east s p k t =
     let o : T (finite s.east) = search (and_l, and_r) in
@@ -99,7 +100,7 @@ origin_east s p k t =
     let l : T (lt (of_int binary64 (pos 0)) s.size) = search (and_l, and_r) in
     origin_cell p s.east s.size t o f l
 
-pub origin_north : (s : Survey) (p : Float) → T (sound s) → T (eq p s.north) → northward s p ≡ At (pos 0)
+pub origin_north : (s : Survey) (p : Float) → T (sound s) → T (eq p s.north) → northward s p ≡ Ok (pos 0)
 unfolding sound
 origin_north s p k t =
     let o : T (finite s.north) = search (and_l, and_r) in

@@ -1,7 +1,7 @@
 -- The search for a cell: what each turn knows of the edges about q, the whole numbers from −16,384 to 16,384.
 use mathlib.Core.Path.{◌≡◌, sym, ap, ◌∙◌, subst}
-use mathlib.Core.Bool.{true, false, not}
-use Prim.Native.Nat.{ℕ, ◌+◌, ◌≤◌, ◌<◌}
+use mathlib.Core.Bool.{false, not}
+use Prim.Native.Nat.{ℕ, ◌+◌, ◌≤◌}
 use native.Mathlib.Omega.{arith}
 use lib.Dec.{T, T_not}
 use borrow.Author.Tests.{not-false}
@@ -25,22 +25,10 @@ next_edge j = to_≡ℤ (coordinate_from_least j +ℤ pos 1) (coordinate_from_le
 lower_edge : (i j : ℕ) (q : Float) → i ≤ j → j ≤ 32768 → T (le (of_int binary64 (coordinate_from_least j)) q) → T (le (of_int binary64 (coordinate_from_least i)) q)
 lower_edge i j q h l t = le_lower (coordinate_from_least i) (coordinate_from_least j) q (edge_small i (omega arith)) (edge_small j l) (simp parts (omega arith)) t
 
--- the middle of the search is a new lower end, or a new upper end
-pub from_middle : (low high middle : ℕ) (q x : Float) → Between low high q → middle < high → x ≡ of_int binary64 (coordinate_from_least middle) → le x q ≡ true
-    → Between middle high q
-from_middle low high middle q x b h e t =
-    record { apart = h; within = b.within; above = from_true _ (ap (λ (x : Float). le x q) (sym e) ∙ t); below = b.below }
-
-pub to_middle : (low high middle : ℕ) (q x : Float) → Between low high q → low < middle → middle < high → x ≡ of_int binary64 (coordinate_from_least middle) → le x q ≡ false
-    → Between low middle q
-to_middle low high middle q x b g h e f =
-    let n = lt_not (coordinate_from_least low) (coordinate_from_least middle) q (edge_small middle (omega (arith, b.within))) b.above in
-    record {
-      apart = g;
-      within = omega (arith, b.within);
-      above = b.above;
-      below = from_true _ (n ∙ ap not (ap (λ (x : Float). le x q) (sym e) ∙ f));
-    }
+-- q is below an edge that is not at most q
+pub below_edge : (low j : ℕ) (q : Float) → T (le (of_int binary64 (coordinate_from_least low)) q) → j ≤ 32768
+    → le (of_int binary64 (coordinate_from_least j)) q ≡ false → T (lt q (of_int binary64 (coordinate_from_least j)))
+below_edge low j q a h e = from_true _ (lt_not (coordinate_from_least low) (coordinate_from_least j) q (edge_small j h) a ∙ ap not e)
 
 -- an edge from the upper one on is not at most q
 pub not_below : (i j k : ℕ) (q : Float) → Between i j q → j ≤ k → k ≤ 32768 → T (le (of_int binary64 (coordinate_from_least k)) q) → ⊥
@@ -59,13 +47,3 @@ none_high q x e f j b =
     let top = le (of_int binary64 (coordinate_from_least 32768)) q in
     let n = lt_not (coordinate_from_least j) (coordinate_from_least 32768) q (edge_small 32768 (omega arith)) b.above in
     not_below j (j + 1) 32768 q b b.within (omega arith) (from_true top (not-false top (sym n ∙ ap (λ (x : Float). lt q x) (sym e) ∙ f)))
-
--- between the two the search begins
-pub whole_range : (q x y : Float) → x ≡ of_int binary64 (coordinate_from_least 0) → le x q ≡ true → y ≡ of_int binary64 (coordinate_from_least 32768) → lt q y ≡ true → Between 0 32768 q
-whole_range q x y e s f t =
-    record {
-      apart = omega arith;
-      within = omega arith;
-      above = from_true _ (ap (λ (x : Float). le x q) (sym e) ∙ s);
-      below = from_true _ (ap (λ (y : Float). lt q y) (sym f) ∙ t);
-    }

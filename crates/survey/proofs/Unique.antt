@@ -1,44 +1,31 @@
--- Two replies that meet one statement are equal: the telling of each is one-to-one.
+-- Two replies that are told alike are equal: the telling of each is one-to-one.
 use mathlib.Core.Path.{◌≡◌, refl, sym, ap, ◌∙◌}
 use mathlib.Core.List.{List, [], ◌∷◌}
-use mathlib.Core.Bool.{cond}
 use lib.ListN.{get_or}
 use lib.IntN.{ℤ, pos, nat_abs}
-use Rattle.sheet.specs.Reply.{Answer, is_done}
-use Rattle.sheet.specs.declared.Refusal.TheVariants as refusal
+use Rattle.std.specs.Prelude.{Result}
+use Rattle.sheet.specs.Reply.{Answer, told}
+use Rattle.sheet.specs.Figure.{kind_of, values_of}
+use Rattle.sheet.specs.declared.Figure.{Figure}
+use Rattle.sheet.specs.declared.refusal.Refusal.{Refusal}
 use Rattle.sheet.proofs.Figures.{figure_of, figure_of_lem}
-use Rattle.sheet.proofs.Unique.{refusal, refusal-number, number_not_0}
-use Rattle.survey.specs.Cell.{told_found}
-use Rattle.survey.specs.Metres.{told_in_cells}
-use Rattle.survey.specs.declared.Found.{Found}
-use Rattle.survey.specs.declared.Found.TheVariants.{At, NoCell}
-use Rattle.survey.specs.declared.InCells.{InCells}
-use Rattle.survey.specs.declared.InCells.TheVariants.{Figure as Is, Refused}
+use Rattle.sheet.proofs.Unique.{told_one}
+use Rattle.survey.specs.Cell.{coordinate_answer}
+use Rattle.survey.specs.Metres.{figure_answer}
 
--- the reply that an answer tells
-found_of : Answer → Found
-found_of a = cond (is_done a) (At (get_or a.values 0 (pos 0))) NoCell
+pub found_one : (r s : Result ℤ Refusal) → told coordinate_answer r ≡ told coordinate_answer s → r ≡ s
+found_one = told_one coordinate_answer (λ k. refl) (λ j k e. ap (λ (a : Answer). get_or a.values 0 (pos 0)) e)
 
-found_of_lem : (r : Found) → found_of (told_found r) ≡ r
-unfolding found_of
-found_of_lem (At k) = refl
-found_of_lem NoCell = refl
+-- the figure that its kind and values tell
+told_figure : List ℤ → Figure
+told_figure [] = figure_of 0 []
+told_figure (kind ∷ v) = figure_of (nat_abs kind) v
 
-done_of : List ℤ → InCells
-done_of [] = Refused refusal.NoCell
-done_of (kind ∷ v) = Is (figure_of (nat_abs kind) v)
+figure_one : (f g : Figure) → figure_answer f ≡ figure_answer g → f ≡ g
+unfolding told_figure
+figure_one f g e =
+    let same : figure_of (kind_of f) (values_of f) ≡ figure_of (kind_of g) (values_of g) = ap (λ (a : Answer). told_figure a.values) e in
+    sym (figure_of_lem f) ∙ same ∙ figure_of_lem g
 
-in_cells_of : Answer → InCells
-in_cells_of a = cond (is_done a) (done_of a.values) (Refused (refusal a.number))
-
-in_cells_of_lem : (r : InCells) → in_cells_of (told_in_cells r) ≡ r
-unfolding in_cells_of done_of
-in_cells_of_lem (Is f) = ap Is (figure_of_lem f)
-in_cells_of_lem (Refused r) = simp (number_not_0 r, refusal-number r)
-
--- two replies told alike are equal
-pub found_one : (r s : Found) → told_found r ≡ told_found s → r ≡ s
-found_one r s e = sym (found_of_lem r) ∙ ap found_of e ∙ found_of_lem s
-
-pub in_cells_one : (r s : InCells) → told_in_cells r ≡ told_in_cells s → r ≡ s
-in_cells_one r s e = sym (in_cells_of_lem r) ∙ ap in_cells_of e ∙ in_cells_of_lem s
+pub in_cells_one : (r s : Result Figure Refusal) → told figure_answer r ≡ told figure_answer s → r ≡ s
+in_cells_one = told_one figure_answer (λ f. refl) figure_one
