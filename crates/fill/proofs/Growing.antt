@@ -1,6 +1,6 @@
 -- How a fill grows: runs are taken one after another, and each keeps what is known of the queue.
 use Prim.Native.Nat.{ℕ, suc, ◌+◌, ◌-◌, ◌*◌, ◌<◌, ◌≤◌}
-use mathlib.Core.Path.{◌≡◌, refl, sym, subst, ◌∙◌}
+use mathlib.Core.Path.{◌≡◌, sym, subst, ◌∙◌}
 use mathlib.Core.List.{List}
 use mathlib.Core.Bool.{true}
 use mathlib.Core.Logic.{◌⊎◌, inl, inr, ⊎_elim}
@@ -13,20 +13,6 @@ use Rattle.sheet.specs.declared.Shape.{Shape}
 use Rattle.sheet.proofs.Limits.{still_sheet}
 use Rattle.fill.specs.Inner.{Ahead, Back, InkedRun, row_of, left_of, right_of, Throughout, Queued, spot, Shut, opens, Ready, Reached, Queue, OnSheet, Grown, IfOpen, Takes}
 use Rattle.fill.proofs.Rows.{along, opens_run}
-
--- nothing yet; under a stronger promise; one after another
-pub grown_none : {H : List ℕ → Cell → Type 0} (k : Shape) (b : ℕ) (s q : List ℕ) (t : ℕ) → Grown H k b s q t s q t
-grown_none k b s q t =
-    record {
-      sheet_size = refl;
-      queue_size = refl;
-      rest = omega arith;
-      more = omega arith;
-      keep = λ n e. e;
-      front = λ j l. refl;
-      on = λ j l m. absurd (omega arith);
-      law = λ s0 a h Q. Q;
-    }
 
 module _ {k : Shape} {b : ℕ} {s q : List ℕ} {t : ℕ} {s₁ q₁ : List ℕ} {t₁ : ℕ} where
   pub grown_as : {H G : List ℕ → Cell → Type 0} → ((s0 : List ℕ) (a : Cell) → G s0 a → H s0 a) → Grown H k b s q t s₁ q₁ t₁ → Grown G k b s q t s₁ q₁ t₁

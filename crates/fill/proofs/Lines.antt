@@ -1,6 +1,6 @@
 -- A figure with a cell in every column of the sheet, and no two cells further apart in their rows than in their columns,
 -- divides the sheet between above and below; with the coordinates exchanged, between left and right. A line is such.
-use Prim.Native.Nat.{ℕ, ◌+◌, ◌-◌, ◌≤◌, ◌<◌}
+use Prim.Native.Nat.{ℕ, ◌+◌, ◌≤◌, ◌<◌}
 use mathlib.Core.Path.{◌≡◌, sym, subst, ap}
 use mathlib.Core.Logic.{◌⊎◌, inl, inr}
 use mathlib.Core.Bool.{Bool, true, false, ◌&&◌}

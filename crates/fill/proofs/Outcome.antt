@@ -12,7 +12,7 @@ use Rattle.sheet.specs.Drawing.{Paints, if_sheet}
 use Rattle.sheet.specs.Inner.{Sheet}
 use Rattle.sheet.specs.declared.Cell.{Cell}
 use Rattle.sheet.specs.declared.Shape.{Shape}
-use Rattle.sheet.specs.declared.Refusal.TheVariants.{Size, Slice, Work, Start}
+use Rattle.sheet.specs.declared.refusal.Refusal.TheVariants.{Size, Slice, Work, Start}
 use Rattle.sheet.proofs.Draws.{drawn}
 use Rattle.sheet.proofs.Lent.{if_sheet_lem, done_sheet}
 use Rattle.sheet.proofs.Limits.{fits_sheet}

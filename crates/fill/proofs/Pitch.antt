@@ -14,7 +14,7 @@ use Rattle.sheet.specs.Pitch.{Padding, with_pitch, Alike}
 use Rattle.sheet.specs.Inner.{fits}
 use Rattle.sheet.specs.declared.Cell.{Cell}
 use Rattle.sheet.specs.declared.Shape.{Shape}
-use Rattle.sheet.specs.declared.Refusal.TheVariants.{Work, Start}
+use Rattle.sheet.specs.declared.refusal.Refusal.TheVariants.{Work, Start}
 use Rattle.sheet.proofs.Count.{cells_pitch}
 use Rattle.sheet.proofs.Limits.{fits_disjoint}
 use Rattle.sheet.proofs.Pitch.{padding_stays, paint_alike, paints_any_pitch, on_sheets}

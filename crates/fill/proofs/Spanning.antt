@@ -1,6 +1,6 @@
 -- The rows of the pieces of a queue: those of the least and of the greatest of them, since a piece has its row in its highest bits.
-use Prim.Native.Nat.{ℕ, ◌+◌, ◌-◌, ◌/◌, ◌<◌, ◌≤◌}
-use mathlib.Core.Path.{◌≡◌, refl, sym, ap, ◌∙◌}
+use Prim.Native.Nat.{ℕ, ◌+◌, ◌<◌, ◌≤◌, min, max}
+use mathlib.Core.Path.{◌≡◌, refl, sym, ◌∙◌}
 use mathlib.Core.List.{List}
 use mathlib.Core.Bool.{Bool, true, false}
 use native.Mathlib.Omega.{arith}
@@ -21,44 +21,22 @@ pub record Extremes (q : List ℕ) (t least most : ℕ) : Type 0 where
   pub low : (j : ℕ) × (j < t) × (get_or q j 0 ≡ least)
   pub high : (j : ℕ) × (j < t) × (get_or q j 0 ≡ most)
 
-pub extremes_one : (q : List ℕ) → Extremes q 1 (get_or q 0 0) (get_or q 0 0)
-extremes_one q =
-    record {
-      all = λ j l. let e : j ≡ 0 = omega arith in rw e (omega arith, omega arith);
-      low = (0, omega arith, refl);
-      high = (0, omega arith, refl);
-    }
-
 pub extremes_more : {q : List ℕ} {t least most : ℕ} → Extremes q t least most
-    → Extremes q (t + 1) (least - (least - get_or q t 0)) (most + (get_or q t 0 - most))
+    → Extremes q (t + 1) (min least (get_or q t 0)) (max most (get_or q t 0))
 extremes_more {q} {t} {least} {most} E =
     record { all = λ j l. all j l (ℕ_discrete j t); low = low (dec_le least (get_or q t 0)); high = high (dec_le (get_or q t 0) most) }
   where
-    all : (j : ℕ) → j < t + 1 → Dec (j ≡ t) → (least - (least - get_or q t 0) ≤ get_or q j 0) × (get_or q j 0 ≤ most + (get_or q t 0 - most))
+    all : (j : ℕ) → j < t + 1 → Dec (j ≡ t) → (min least (get_or q t 0) ≤ get_or q j 0) × (get_or q j 0 ≤ max most (get_or q t 0))
     all j l (yes e) = rw e (omega arith, omega arith)
     all j l (no e) = let h = E.all j (omega arith) in (omega (arith, h.0), omega (arith, h.1))
 
-    low : Dec (least ≤ get_or q t 0) → (j : ℕ) × (j < t + 1) × (get_or q j 0 ≡ least - (least - get_or q t 0))
+    low : Dec (least ≤ get_or q t 0) → (j : ℕ) × (j < t + 1) × (get_or q j 0 ≡ min least (get_or q t 0))
     low (yes l) = let h = E.low in (h.0, omega (arith, h.1), omega (arith, h.2))
     low (no l) = (t, omega arith, omega arith)
 
-    high : Dec (get_or q t 0 ≤ most) → (j : ℕ) × (j < t + 1) × (get_or q j 0 ≡ most + (get_or q t 0 - most))
+    high : Dec (get_or q t 0 ≤ most) → (j : ℕ) × (j < t + 1) × (get_or q j 0 ≡ max most (get_or q t 0))
     high (yes l) = let h = E.high in (h.0, omega (arith, h.1), omega (arith, h.2))
     high (no l) = (t, omega arith, omega arith)
-
--- their rows
-pub spans_none : (q : List ℕ) (t : ℕ) → t ≡ 0 → Spans q t 4096 0
-spans_none q t e =
-    record { none = λ z. (refl, refl); between = λ j l. absurd (omega arith); first = λ l. absurd (omega arith); last = λ l. absurd (omega arith) }
-
-pub spans_some : {q : List ℕ} {t least most : ℕ} → Extremes q t least most → Spans q t (least / 1048576) (most / 1048576 + 1)
-spans_some {q} {t} {least} {most} E =
-    record {
-      none = λ z. let h = E.low in absurd (omega (arith, h.1));
-      between = λ j l. let h = E.all j l in (omega (arith, h.0), omega (arith, h.1));
-      first = λ l. let h = E.low in (h.0, h.1, ap row_of h.2);
-      last = λ l. let h = E.high in (h.0, h.1, ap (λ (e : ℕ). row_of e + 1) h.2);
-    }
 
 -- the rows of a figure that is in the rows of the pieces are those of its rectangle
 module _ {k : Shape} {f : Cell → Bool} {q : List ℕ} {t top bottom : ℕ} (I : InRows k f q t) (S : Spans q t top bottom) where
@@ -93,12 +71,7 @@ module _ {k : Shape} {f : Cell → Bool} {q : List ℕ} {t top bottom : ℕ} (I 
           let r = box_holds k f n.0 (row_of (get_or q j.0 0)) n.1 in
           (omega (arith, w.2, p.2, i.2), omega (arith, w.3, r.3, j.2))
 
--- a piece fits 32 bits
-pub piece_small : {k : Shape} {a : Cell} {b ink p t : ℕ} {lent s q : List ℕ} {r : Answer} → FillsPieces k a b ink p lent r s q t
-    → (j : ℕ) → j < t → get_or q j 0 < 4294967296
-piece_small F j l = let m = F.rows.some j l in omega (arith, m.1.row, F.high (omega arith))
-
--- so what is told of a fill in pieces are the rows of its territory
+-- so what is told of a fill in pieces are the rows of its territory, and those of no cell where it is refused
 pub rows_told : {k : Shape} {a : Cell} {b ink p t top bottom : ℕ} {lent s q : List ℕ} {r : Answer} → FillsPieces k a b ink p lent r s q t
     → Spans q t top bottom → FillsRows k a b ink p lent r top bottom s
 rows_told {k} {a} {b} {ink} {p} {t} {top} {bottom} {lent} {s} {q} {r} F S = by (is_done r) refl

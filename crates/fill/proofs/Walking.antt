@@ -1,5 +1,5 @@
 -- A row scanned, the rows above and below a piece looked at, and the walk over the queue.
-use Prim.Native.Nat.{ℕ, suc, ◌+◌, ◌-◌, ◌*◌, ◌/◌, ◌%◌, ◌<◌, ◌≤◌}
+use Prim.Native.Nat.{ℕ, suc, ◌+◌, ◌-◌, ◌*◌, ◌<◌, ◌≤◌}
 use mathlib.Core.Path.{◌≡◌, refl, subst, ap, ◌∙◌}
 use mathlib.Core.List.{List}
 use mathlib.Core.Bool.{Bool, true, false, cond}
@@ -12,9 +12,9 @@ use Rattle.sheet.specs.Sheet.{cell_of}
 use Rattle.sheet.specs.declared.Cell.{Cell}
 use Rattle.sheet.specs.declared.Shape.{Shape}
 use Rattle.fill.specs.Territory.{Reach, step}
-use Rattle.fill.specs.Inner.{Ahead, row_of, left_of, right_of, Throughout, spot, Shut, Queue, OnSheet, Grown, IfOpen, AllIfOpen, Takes, Scanned, row_beside, Strips, start, above, below, AllOnSheet, Walked}
+use Rattle.fill.specs.Inner.{Ahead, row_of, left_of, right_of, Throughout, spot, Shut, Queue, OnSheet, Grown, IfOpen, AllIfOpen, Takes, Scanned, row_above, Strips, start, above, below, Walked}
 use Rattle.fill.proofs.Rows.{side_of, open_cell}
-use Rattle.fill.proofs.Growing.{grown_none, grown_as, grown_both}
+use Rattle.fill.proofs.Growing.{grown_as, grown_both}
 
 -- a scan of row y from l to r that has come to column `at`, or past the end
 pub record Scanning (k : Shape) (b y l r at : ℕ) (s q : List ℕ) (t : ℕ) (s' q' : List ℕ) (t' : ℕ) : Type 0 where
@@ -22,22 +22,11 @@ pub record Scanning (k : Shape) (b y l r at : ℕ) (s q : List ℕ) (t : ℕ) (s
   pub shut : (x : ℕ) → l ≤ x → x < at → Shut k b s' x y
   pub onward : l ≤ at
 
-pub scanning_none : (k : Shape) (b y l r : ℕ) (s q : List ℕ) (t : ℕ) → Scanning k b y l r l s q t s q t
-scanning_none k b y l r s q t = record { grown = grown_none k b s q t; shut = λ x m n. absurd (omega arith); onward = omega arith }
-
 module _ {k : Shape} {b y l r at : ℕ} {s q : List ℕ} {t : ℕ} {s₁ q₁ : List ℕ} {t₁ : ℕ} (S : Scanning k b y l r at s q t s₁ q₁ t₁) where
-  -- the end was passed
-  pub scanning_end : r ≤ at → Scanned k b y l r s q t s₁ q₁ t₁
-  scanning_end m = record { grown = S.grown; shut = λ on x u v. S.shut x u (omega arith) }
-
   module _ {o : ℕ} (A : Ahead false b (spot k at y) (spot k r y) s₁ (spot k o y)) where
     passed : (x : ℕ) → l ≤ x → x < o → Dec (x < at) → Shut k b s₁ x y
     passed x u v (yes w) = S.shut x u w
     passed x u v (no w) = eqb-true _ b (A.passed (spot k x y) (omega arith) (omega arith))
-
-    -- no more is open
-    pub scanning_shut : r ≤ o → Scanned k b y l r s q t s₁ q₁ t₁
-    scanning_shut m = record { grown = S.grown; shut = λ on x u v. passed x u (omega arith) (dec_lt x at) }
 
     -- one more run
     pub scanning_more : {s₂ q₂ : List ℕ} {t₂ past : ℕ} → y < k.height → o < r → Takes k b o y s₁ q₁ t₁ s₂ q₂ t₂ past → Scanning k b y l r past s q t s₂ q₂ t₂
@@ -52,57 +41,18 @@ module _ {k : Shape} {b y l r at : ℕ} {s q : List ℕ} {t : ℕ} {s₁ q₁ : 
         shut x u v (yes w) = T.grown.keep (spot k x y) (passed x u w (dec_lt x at))
         shut x u v (no w) = T.shut x (omega arith) v
 
--- a scan of a row that the sheet has not
-pub scanned_off : {k : Shape} {b y l r : ℕ} {s q : List ℕ} {t : ℕ} → k.height ≤ y → Scanned k b y l r s q t s q t
-scanned_off m = record { grown = grown_none _ _ _ _ _; shut = λ n. absurd (omega arith) }
-
--- the walk: no turn yet
-pub walked_none : (k : Shape) (b x y : ℕ) (s q : List ℕ) → Walked k b x y 0 s q s q 0
-walked_none k b x y s q =
-    record {
-      grown = grown_none k b s q 0;
-      on = λ j l. absurd (omega arith);
-      due = omega arith;
-      begun = λ l. absurd (omega arith);
-      above = λ j l. absurd (omega arith);
-      below = λ j l. absurd (omega arith);
-    }
-
--- the row beside a row
-above_is : (y v : ℕ) → v ≡ row_beside y true → v < 4096 → suc v ≡ y
-unfolding row_beside
+-- the row above a row
+above_is : (y v : ℕ) → v ≡ row_above y → v < 4096 → suc v ≡ y
+unfolding row_above
 above_is y v e l = by (eqb y 0) refl e
   where
     by : (t : Bool) → eqb y 0 ≡ t → v ≡ cond (eqb y 0) 4096 (y - 1) → suc v ≡ y
     by true f g = let h : v ≡ 4096 = g ∙ ap (λ (t : Bool). cond t 4096 (y - 1)) f in absurd (omega arith)
     by false f g = let h : v ≡ y - 1 = g ∙ ap (λ (t : Bool). cond t 4096 (y - 1)) f in omega (arith, eqb-false y 0 f)
 
-is_above : (y v : ℕ) → suc v ≡ y → row_beside y true ≡ v
-unfolding row_beside
+is_above : (y v : ℕ) → suc v ≡ y → row_above y ≡ v
+unfolding row_above
 is_above y v e = simp (ne_eqb y 0 (λ z. omega arith)) (omega arith)
-
-is_below : (y : ℕ) → row_beside y false ≡ suc y
-unfolding row_beside
-is_below y = omega arith
-
--- the strip of a turn: beside the piece that is due, and on the sheet
-pub strip_due : (q : List ℕ) (x y turn row : ℕ) → (turn ≡ 0 → ⊥) → row ≡ row_beside (row_of (get_or q ((turn - 1) / 2) 0)) (eqb ((turn - 1) % 2) 0)
-    → Strips q x y turn row (left_of (get_or q ((turn - 1) / 2) 0)) (right_of (get_or q ((turn - 1) / 2) 0))
-strip_due q x y turn row o e = by (eqb ((turn - 1) % 2) 0) refl
-  where
-    by : (t : Bool) → eqb ((turn - 1) % 2) 0 ≡ t → Strips q x y turn row (left_of (get_or q ((turn - 1) / 2) 0)) (right_of (get_or q ((turn - 1) / 2) 0))
-    by true f =
-        let h = eqb-true ((turn - 1) % 2) 0 f in
-        above ((turn - 1) / 2) (omega arith) (e ∙ ap (row_beside (row_of (get_or q ((turn - 1) / 2) 0))) f) refl refl
-    by false f =
-        let h = eqb-false ((turn - 1) % 2) 0 f in
-        below ((turn - 1) / 2) (omega arith) (e ∙ ap (row_beside (row_of (get_or q ((turn - 1) / 2) 0))) f) refl refl
-
-pub strip_inside : (k : Shape) {q : List ℕ} {x y turn row l r : ℕ} (t : ℕ) → AllOnSheet k q t → turn ≤ 2 * t → x < k.width → Strips q x y turn row l r
-    → (l ≤ r) × (r ≤ k.width)
-strip_inside k t on m n (start d e f g) = (omega arith, omega arith)
-strip_inside k t on m n (above j d e f g) = (omega arith, omega (arith, (on j (omega arith)).1))
-strip_inside k t on m n (below j d e f g) = (omega arith, omega (arith, (on j (omega arith)).1))
 
 -- one turn more
 module _ {k : Shape} {b x y turn : ℕ} {s q s₁ q₁ : List ℕ} {t₁ : ℕ} {s₂ q₂ : List ℕ} {t₂ row l r : ℕ}
@@ -121,7 +71,7 @@ module _ {k : Shape} {b x y turn : ℕ} {s q s₁ q₁ : List ℕ} {t₁ : ℕ} 
       by : Strips q₁ x y turn row l r → Reach k b s0 a (cell_of u row)
       by (start d e f g) = let i : u ≡ x = omega arith in rw (i, e) (h (rw (i, e) at o))
       by (above j d e f g) = let i = above_is (row_of (get_or q₁ j 0)) row e (omega arith) in beside j (omega arith) f g (omega arith)
-      by (below j d e f g) = let i = e ∙ is_below (row_of (get_or q₁ j 0)) in beside j (omega arith) f g (omega arith)
+      by (below j d e f g) = let i = e in beside j (omega arith) f g (omega arith)
 
   same : (j : ℕ) → j < t₁ → get_or q₂ j 0 ≡ get_or q₁ j 0
   same = S.grown.front
@@ -152,7 +102,7 @@ module _ {k : Shape} {b x y turn : ℕ} {s q s₁ q₁ : List ℕ} {t₁ : ℕ} 
   below_now j d e u m n (above i d' e' f g) = absurd (omega arith)
   below_now j d e u m n (below i d' e' f g) =
       let z : i ≡ j = omega arith in
-      let w : row ≡ suc (row_of (get_or q₁ j 0)) = rw z at e' ∙ is_below (row_of (get_or q₁ j 0)) in
+      let w : row ≡ suc (row_of (get_or q₁ j 0)) = omega (arith, rw z at e') in
       let low : l ≡ left_of (get_or q₁ j 0) = rw z at f in
       let right : r ≡ right_of (get_or q₁ j 0) = rw z at g in
       subst (λ (v : ℕ). Shut k b s₂ u v) w (S.shut (omega arith) u (omega arith) (omega arith))

@@ -1,12 +1,14 @@
 -- Filling a territory.
-use Rattle.std.specs.Prelude.{ℕ, ◌*◌, ◌≡◌, List, [], ◌∷◌, Bool, true, false, leb, pos}
+use Rattle.std.specs.Prelude.{ℕ, ◌*◌, ◌≡◌, List, [], ◌∷◌, Bool, true, false, leb, pos, Result, Ok, Err}
 use Rattle.sheet.specs.Sheet.{on_sheet, cells_on}
 use Rattle.sheet.specs.Repaint.{nothing, box_of}
-use Rattle.sheet.specs.Reply.{Answer, done, unless, is_done, settled}
+use Rattle.sheet.specs.Reply.{Answer, done, count_answer, unless, is_done, settled}
 use Rattle.sheet.specs.Drawing.{Drawing, Paints, only, if_sheet}
 use Rattle.sheet.specs.declared.Cell.{Cell}
 use Rattle.sheet.specs.declared.Shape.{Shape}
-use Rattle.sheet.specs.declared.Refusal.TheVariants.{Work, Start}
+use Rattle.sheet.specs.declared.refusal.Refusal.{Refusal}
+use Rattle.sheet.specs.declared.refusal.Refusal.TheVariants.{Work, Start}
+use Rattle.fill.specs.declared.Filled.{Filled}
 use Rattle.fill.specs.Territory.{Territory}
 
 -- 1, 15, then 17 when the work slice has fewer than width × height places, then 18 when the start is off the sheet, else 0 with the number of cells
@@ -36,6 +38,18 @@ pub record FillsRows (k : Shape) (start : Cell) (boundary ink places : ℕ)
   pub fills : Fills k start boundary ink places lent reply bytes
   pub first : top ≡ (settled reply (box_of k fills.territory) nothing).top
   pub past : bottom ≡ (settled reply (box_of k fills.territory) nothing).bottom
+
+-- what it tells: of its cells the number, and the rows, those of no cell where it is refused
+abbrev pub filled_answer : Filled → Answer
+filled_answer f = count_answer f.cells
+
+abbrev pub first_row : Result Filled Refusal → ℕ
+first_row (Ok f) = f.top
+first_row (Err r) = 4096
+
+abbrev pub past_row : Result Filled Refusal → ℕ
+past_row (Ok f) = f.bottom
+past_row (Err r) = 0
 
 -- A refusal leaves the work slice as it was.
 abbrev pub Spares : Answer → List ℕ → List ℕ → Type 0

@@ -1,18 +1,20 @@
 -- What the inner functions promise each other: of the sheet's bytes s, the work slice q and the number t of pieces that it holds, before and after.
-use Rattle.std.specs.Prelude.{ℕ, zero, suc, ◌+◌, ◌-◌, ◌*◌, ◌/◌, ◌%◌, ◌<◌, ◌≤◌, ◌≡◌, List, Bool, true, false, cond, not, ◌&&◌, eqb, ℤ, pos, nat_abs, length, get_or}
+use Rattle.std.specs.Prelude.{ℕ, zero, suc, ◌+◌, ◌-◌, ◌*◌, ◌/◌, ◌%◌, ◌<◌, ◌≤◌, ◌≡◌, List, Bool, true, false, cond, not, ◌&&◌, eqb, ℤ, pos, nat_abs, length, get_or, Option, Some, None, Result, Ok, Err}
 use Rattle.std.specs.Int.Signed.{le_z, lt_z}
 use Rattle.sheet.specs.Sheet.{place, cell_of, cells_on, paint}
 use Rattle.sheet.specs.Repaint.{Set}
-use Rattle.sheet.specs.Reply.{Answer, is_done}
+use Rattle.sheet.specs.Reply.{Answer, count_answer, is_done}
 use Rattle.sheet.specs.Inner.{Sheet}
 use Rattle.sheet.specs.declared.Cell.{Cell}
 use Rattle.sheet.specs.declared.Shape.{Shape}
+use Rattle.sheet.specs.declared.refusal.Refusal.{Refusal}
+use Rattle.fill.specs.declared.Amount.{Amount}
 use Rattle.fill.specs.Territory.{Reach, Territory}
 use Rattle.fill.specs.Fill.{Fills}
 
--- a number as a column or a row of the sheet; the size, for one that is none
-unfoldable pub index_of : ℤ → ℕ → ℕ
-index_of z size = cond (le_z (pos 0) z && lt_z z (pos size)) (nat_abs z) size
+-- a number as a column or a row of the sheet, where it is one
+unfoldable pub index_of : ℤ → ℕ → Option ℕ
+index_of z size = cond (le_z (pos 0) z && lt_z z (pos size)) (Some (nat_abs z)) None
 
 -- a search ahead: the first place from `from` on that has the ink, where `has` is asked, or has it not; `to`, if there is none before it
 pub record Ahead (has : Bool) (ink from to : ℕ) (s : List ℕ) (r : ℕ) : Type 0 where
@@ -137,16 +139,16 @@ pub record Scanned (k : Shape) (b y l r : ℕ) (s q : List ℕ) (t : ℕ) (s' q'
   pub grown : Grown (AllIfOpen k b y l r) k b s q t s' q' t'
   pub shut : y < k.height → (x : ℕ) → l ≤ x → x < r → Shut k b s' x y
 
--- the row above a row, 4,096 where there is none, or the row below it
-unfoldable pub row_beside : ℕ → Bool → ℕ
-row_beside y above = cond above (cond (eqb y 0) 4096 (y - 1)) (y + 1)
+-- the row above a row, 4,096 where there is none
+unfoldable pub row_above : ℕ → ℕ
+row_above y = cond (eqb y 0) 4096 (y - 1)
 
 -- what is looked at in turn: the start at (x, y), and then the rows above and below piece after piece
 pub data Strips (q : List ℕ) (x y turn row l r : ℕ) : Type 0 where
   start : turn ≡ 0 → row ≡ y → l ≡ x → r ≡ x + 1 → Strips q x y turn row l r
-  above : (j : ℕ) → turn ≡ 2 * j + 1 → row ≡ row_beside (row_of (get_or q j 0)) true → l ≡ left_of (get_or q j 0) → r ≡ right_of (get_or q j 0)
+  above : (j : ℕ) → turn ≡ 2 * j + 1 → row ≡ row_above (row_of (get_or q j 0)) → l ≡ left_of (get_or q j 0) → r ≡ right_of (get_or q j 0)
       → Strips q x y turn row l r
-  below : (j : ℕ) → turn ≡ 2 * j + 2 → row ≡ row_beside (row_of (get_or q j 0)) false → l ≡ left_of (get_or q j 0) → r ≡ right_of (get_or q j 0)
+  below : (j : ℕ) → turn ≡ 2 * j + 2 → row ≡ row_of (get_or q j 0) + 1 → l ≡ left_of (get_or q j 0) → r ≡ right_of (get_or q j 0)
       → Strips q x y turn row l r
 
 -- the first t pieces lie on the sheet
@@ -196,7 +198,15 @@ pub record Spans (q : List ℕ) (t top bottom : ℕ) : Type 0 where
   pub first : 0 < t → (j : ℕ) × (j < t) × (row_of (get_or q j 0) ≡ top)
   pub last : 0 < t → (j : ℕ) × (j < t) × (row_of (get_or q j 0) + 1 ≡ bottom)
 
--- a fill, and the pieces in whose rows it is: none, where it is refused
+-- what is told of a territory, and its pieces: none, where it is refused
+abbrev pub amount_answer : Amount → Answer
+amount_answer a = count_answer a.cells
+
+abbrev pub pieces_of : Result Amount Refusal → ℕ
+pieces_of (Ok a) = a.pieces
+pieces_of (Err r) = 0
+
+-- a fill, and the pieces in whose rows it is
 pub record FillsPieces (k : Shape) (start : Cell) (boundary ink places : ℕ)
     (lent : List ℕ) (reply : Answer) (bytes q : List ℕ) (t : ℕ) : Type 0 where
   pub fills : Fills k start boundary ink places lent reply bytes

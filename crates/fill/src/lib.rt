@@ -2,11 +2,11 @@
 // the row is queued; when no more is reached, what was queued gets the territory ink. The cost is that of the territory.
 #![tactic(auto)]
 
-ghost use Rattle.std.specs.Prelude.{◌≡◌, cond, ◌+◌, ◌-◌, ◌*◌, ◌/◌, ◌<◌, ◌≤◌, length, get_or};
-ghost use Rattle.sheet.specs.Reply.{told};
+ghost use Rattle.std.specs.Prelude.{◌≡◌, ◌+◌, ◌-◌, ◌*◌, ◌/◌, ◌<◌, ◌≤◌, length, get_or};
+ghost use Rattle.sheet.specs.Reply.{told, count_answer};
 ghost use Rattle.sheet.specs.Inner.{Sheet};
-ghost use Rattle.fill.specs.Fill.{Fills, FillsRows, Spares};
-ghost use Rattle.fill.specs.Inner.{index_of, total, Shut, Ready, AllOnSheet, Takes, Scanned, row_beside, Strips, Walked, Settled, FloodedIn, FillsPieces};
+ghost use Rattle.fill.specs.Fill.{filled_answer, first_row, past_row, Fills, FillsRows, Spares};
+ghost use Rattle.fill.specs.Inner.{index_of, total, Shut, Ready, AllOnSheet, Takes, Scanned, row_above, Strips, Walked, Settled, FloodedIn, amount_answer, pieces_of, FillsPieces};
 
 mod ink;
 mod queue;
@@ -16,25 +16,11 @@ mod span;
 use ink::ink_run;
 use queue::queue;
 use search::{ahead, back};
-use sheet::{Cell, Refusal, Reply, Shape};
+use sheet::{Cell, Refusal, Shape};
 use span::rows_of;
 
-// The one or the other.
-fn chosen(first: bool, a: u8, b: u8) -> u8
-    ensures { result ≡ cond first a b }
-{
-    if first { a } else { b }
-}
-
-// The lesser of two.
-fn lesser(a: usize, b: usize) -> usize
-    ensures { result ≡ a - (a - b) }
-{
-    if a < b { a } else { b }
-}
-
 // What was taken: where its run ends, and where the queue does.
-#[derive(Clone, Copy)]
+#[derive(Clone, Copy, Debug, PartialEq, Eq, Hash)]
 struct Taken {
     past: usize,
     tail: usize,
@@ -71,7 +57,7 @@ fn take(
 }
 
 // A part of a row, from one column to before another.
-#[derive(Clone, Copy)]
+#[derive(Clone, Copy, Debug, PartialEq, Eq, Hash)]
 struct Strip {
     row: usize,
     from: usize,
@@ -114,18 +100,12 @@ fn scan(
     end
 }
 
-// The row above or below a row; 4,096, which no sheet has, where there is none above.
-fn beside(row: usize, above: bool) -> usize
-    requires { row ≤ 4096 }
-    ensures { result ≡ row_beside row above }
+// The row above a row; 4,096, which no sheet has, where there is none: a row off the sheet is one test at either end.
+#[tactic(auto, unfolding(crate::specs::Inner::row_above))]
+fn above(row: usize) -> usize
+    ensures { result ≡ row_above row }
 {
-    if !above {
-        return row + 1;
-    }
-    if row == 0 {
-        return 4096;
-    }
-    row - 1
+    if row == 0 { 4096 } else { row - 1 }
 }
 
 // What is looked at in turn: first the start, then what is above and what is below each piece of the queue.
@@ -143,9 +123,10 @@ fn strip_at(work: &[u32], turn: usize, row: usize, column: usize) -> Strip
     }
     let last = turn - 1;
     let piece = work[last / 2] as usize;
+    let row = piece / 1048576;
     let from = piece / 256 % 4096;
     Strip {
-        row: beside(piece / 1048576, last % 2 == 0),
+        row: if last % 2 == 0 { above(row) } else { row + 1 },
         from,
         to: from + piece % 256 + 1,
     }
@@ -185,20 +166,18 @@ fn settle(sheet: &mut [u8], work: &[u32], count: usize, shape: Shape, ink: u8) -
 {
     let pitch = shape.pitch;
     let mut cells = 0;
-    let mut head = 0;
-    while head < count {
-        let piece = work[head] as usize;
+    for &piece in &work[..count] {
+        let piece = piece as usize;
         let at = piece / 1048576 * pitch as usize + piece / 256 % 4096;
         let long = piece % 256 + 1;
         ink_run(sheet, at, at + long, ink);
         cells += long;
-        head += 1;
     }
     cells
 }
 
 // What a territory came to: its cells, and the pieces of the queue that they are in.
-#[derive(Clone, Copy)]
+#[derive(Clone, Copy, Debug, PartialEq, Eq, Hash)]
 struct Amount {
     cells: usize,
     pieces: usize,
@@ -225,41 +204,24 @@ fn flood(
     Amount { cells, pieces }
 }
 
-// What came of a fill that tells its rows: the reply, and the rows from top to before bottom; from 4,096, which no sheet has, to 0
-// where it set no cell.
-#[derive(Clone, Copy)]
+/// What came of a fill that tells its rows: from top to before bottom; from 4,096, which no sheet has, to 0 where it set no cell.
+#[derive(Clone, Copy, Debug, PartialEq, Eq, Hash)]
 pub struct Filled {
-    pub reply: Reply,
+    /// How many cells the territory has.
+    pub cells: usize,
+    /// The first row that it has a cell in.
     pub top: u32,
+    /// The row after the last that it has a cell in.
     pub bottom: u32,
 }
 
-// A column or a row of the sheet; its size for a number that is none.
-fn index(z: i32, size: u32) -> u32
+// A column or a row of the sheet, for a number that is one.
+#[tactic(auto, unfolding(crate::specs::Inner::index_of))]
+fn index(z: i32, size: u32) -> Option<u32>
     ensures { result ≡ index_of z size }
 {
-    if z < 0 {
-        return size;
-    }
-    let at = z as u32;
-    if size <= at {
-        return size;
-    }
-    at
-}
-
-// What came of a fill: the reply, and the pieces of the queue, none where it is refused.
-#[derive(Clone, Copy)]
-struct InPieces {
-    reply: Reply,
-    count: usize,
-}
-
-// A fill that set no cell.
-fn unfilled(reply: Reply) -> InPieces
-    ensures { (told result.reply ≡ told reply) × (result.count ≡ 0) }
-{
-    InPieces { reply, count: 0 }
+    let at = u32::try_from(z).ok()?;
+    (at < size).then_some(at)
 }
 
 // Fills the territory of a cell, and tells its pieces.
@@ -270,29 +232,18 @@ fn fill_pieces(
     boundary: u8,
     territory: u8,
     work: &mut [u32],
-) -> InPieces
+) -> Result<Amount, Refusal>
     ensures fills_pieces { FillsPieces shape start boundary territory (length work.old)
-        sheet.old (told result.reply) sheet.new work.new result.count }
-    ensures spares { Spares (told result.reply) work.old work.new }
+        sheet.old (told amount_answer result) sheet.new work.new (pieces_of result) }
+    ensures spares { Spares (told amount_answer result) work.old work.new }
 {
-    let tested = sheet::check(shape, sheet.len());
-    if !tested.is_done() {
-        return unfilled(tested);
+    shape.check(sheet.len())?;
+    if work.len() < shape.width as usize * shape.height as usize {
+        return Err(Refusal::Work);
     }
-    let width = shape.width;
-    let height = shape.height;
-    if work.len() < width as usize * height as usize {
-        return unfilled(Reply::Refused(Refusal::Work));
-    }
-    let column = index(start.x, width);
-    if column == width {
-        return unfilled(Reply::Refused(Refusal::Start));
-    }
-    let row = index(start.y, height);
-    if row == height {
-        return unfilled(Reply::Refused(Refusal::Start));
-    }
-    let flood = flood(
+    let column = index(start.x, shape.width).ok_or(Refusal::Start)?;
+    let row = index(start.y, shape.height).ok_or(Refusal::Start)?;
+    Ok(flood(
         sheet,
         work,
         shape,
@@ -300,16 +251,12 @@ fn fill_pieces(
         column as usize,
         boundary,
         territory,
-    );
-    InPieces {
-        reply: Reply::Counted(flood.cells),
-        count: flood.pieces,
-    }
+    ))
 }
 
-// Fills the territory of a cell: sets to the territory ink exactly the cells that can be reached from it by steps to a side
-// neighbour on the sheet without entering a cell of the boundary ink, and tells their number. The work slice has a place for
-// each cell of the sheet; a refusal leaves it as it was, and what it holds after a fill is nobody's to read.
+/// Fills the territory of a cell: sets to the territory ink exactly the cells that can be reached from it by steps to a side
+/// neighbour on the sheet without entering a cell of the boundary ink, and tells their number. The work slice has a place for
+/// each cell of the sheet; a refusal leaves it as it was, and what it holds after a fill is nobody's to read.
 pub fn fill(
     sheet: &mut [u8],
     shape: Shape,
@@ -317,16 +264,15 @@ pub fn fill(
     boundary: u8,
     territory: u8,
     work: &mut [u32],
-) -> Reply
+) -> Result<usize, Refusal>
     ensures fills { Fills shape start boundary territory (length work.old)
-        sheet.old (told result) sheet.new }
-    ensures spares { Spares (told result) work.old work.new }
+        sheet.old (told count_answer result) sheet.new }
+    ensures spares { Spares (told count_answer result) work.old work.new }
 {
-    let filled = fill_pieces(sheet, shape, start, boundary, territory, work);
-    filled.reply
+    Ok(fill_pieces(sheet, shape, start, boundary, territory, work)?.cells)
 }
 
-// The same, and tells besides in which rows it set cells.
+/// The same, and tells besides in which rows it set cells.
 pub fn fill_rows(
     sheet: &mut [u8],
     shape: Shape,
@@ -334,17 +280,16 @@ pub fn fill_rows(
     boundary: u8,
     territory: u8,
     work: &mut [u32],
-) -> Filled
+) -> Result<Filled, Refusal>
     ensures fills_rows { FillsRows shape start boundary territory (length work.old)
-        sheet.old (told result.reply) result.top result.bottom sheet.new }
-    ensures spares { Spares (told result.reply) work.old work.new }
+        sheet.old (told filled_answer result) (first_row result) (past_row result) sheet.new }
+    ensures spares { Spares (told filled_answer result) work.old work.new }
 {
-    let filled = fill_pieces(sheet, shape, start, boundary, territory, work);
-    let reply = filled.reply;
-    let rows = rows_of(work, filled.count);
-    Filled {
-        reply,
+    let amount = fill_pieces(sheet, shape, start, boundary, territory, work)?;
+    let rows = rows_of(work, amount.pieces);
+    Ok(Filled {
+        cells: amount.cells,
         top: rows.top,
         bottom: rows.bottom,
-    }
+    })
 }

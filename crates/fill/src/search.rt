@@ -1,18 +1,21 @@
 // Searches along a row: cell by cell at first, since most runs are short, and then in chunks of 64.
-ghost use Rattle.std.specs.Prelude.{◌≡◌, ◌+◌, ◌-◌, ◌≤◌, length};
+ghost use Rattle.std.specs.Prelude.{◌+◌, ◌≤◌, length};
 ghost use Rattle.fill.specs.Inner.{Ahead, Back};
 
-use crate::{chosen, lesser};
-
-// How far ahead of a place, within 64, the first is that has the ink, where that is asked, or has it not.
+// How far ahead of a place, within 64, the first is that has the ink, where that is asked, or has it not: `has` picks no step, each
+// cell's test is compared with it.
 fn first(sheet: &[u8], at: usize, ink: u8, has: bool) -> usize
     requires { at + 64 ≤ length sheet.now }
     ensures { Ahead has ink at (at + 64) sheet.now (at + result) }
 {
     let mut least = 64;
     for i in 0..64 {
-        let here = chosen((sheet[at + i] == ink) == has, i as u8, 64);
-        least = chosen(here < least, here, least);
+        let here = if (sheet[at + i] == ink) == has {
+            i as u8
+        } else {
+            64
+        };
+        least = here.min(least);
     }
     least as usize
 }
@@ -22,17 +25,15 @@ fn near(sheet: &[u8], from: usize, to: usize, ink: u8, has: bool) -> usize
     requires { (from ≤ to) × (to ≤ length sheet.now) }
     ensures { Ahead has ink from to sheet.now result }
 {
-    let mut at = from;
-    while at < to {
+    for at in from..to {
         if (sheet[at] == ink) == has {
             return at;
         }
-        at += 1;
     }
     to
 }
 
-// The same in chunks, which may look past the end of the search, but not of the sheet.
+// The same in chunks, which may look past the end of the search, but not of the sheet, so that they are none of the slice's own.
 fn far(sheet: &[u8], from: usize, to: usize, ink: u8, has: bool) -> usize
     requires { (from ≤ to) × (to ≤ length sheet.now) }
     ensures { Ahead has ink from to sheet.now result }
@@ -44,7 +45,7 @@ fn far(sheet: &[u8], from: usize, to: usize, ink: u8, has: bool) -> usize
         }
         let passed = first(sheet, at, ink, has);
         if passed < 64 {
-            return lesser(at + passed, to);
+            return (at + passed).min(to);
         }
         at += 64;
     }
@@ -56,7 +57,7 @@ pub(crate) fn ahead(sheet: &[u8], from: usize, to: usize, ink: u8, has: bool) ->
     requires { (from ≤ to) × (to ≤ length sheet.now) }
     ensures { Ahead has ink from to sheet.now result }
 {
-    let close = lesser(from + 8, to);
+    let close = (from + 8).min(to);
     let at = near(sheet, from, close, ink, has);
     if at < close {
         return at;
@@ -69,18 +70,15 @@ fn near_back(sheet: &[u8], from: usize, to: usize, ink: u8) -> usize
     requires { (from ≤ to) × (to ≤ length sheet.now) }
     ensures { Back ink from to sheet.now result }
 {
-    let mut at = to;
-    while from < at {
-        let before = at - 1;
+    for before in (from..to).rev() {
         if sheet[before] == ink {
-            return at;
+            return before + 1;
         }
-        at = before;
     }
     from
 }
 
-// Back in whole chunks that have no cell of the ink.
+// Back in whole chunks that have no cell of the ink, as far as there are any.
 fn far_back(sheet: &[u8], from: usize, to: usize, ink: u8) -> usize
     requires { (from ≤ to) × (to ≤ length sheet.now) }
     ensures { Back ink result to sheet.now result × (from ≤ result) }
@@ -101,17 +99,10 @@ pub(crate) fn back(sheet: &[u8], from: usize, to: usize, ink: u8) -> usize
     requires { (from ≤ to) × (to ≤ length sheet.now) }
     ensures { Back ink from to sheet.now result }
 {
-    let close = greater(to, from + 8) - 8;
+    let close = to.saturating_sub(8).max(from);
     let at = near_back(sheet, close, to, ink);
     if close < at {
         return at;
     }
     near_back(sheet, from, far_back(sheet, from, at, ink), ink)
-}
-
-// The greater of two.
-pub(crate) fn greater(a: usize, b: usize) -> usize
-    ensures { result ≡ a + (b - a) }
-{
-    if a < b { b } else { a }
 }

@@ -1,5 +1,4 @@
 -- `fill::walk` meets its contract.
-use Prim.Native.Nat.{◌-◌}
 use Rattle.fill.proofs.Walking.{walked_more}
 use Rattle.fill.proofs.walk.Goals as goal
 

@@ -1,5 +1,5 @@
 -- `fill::queue::queue` meets its contract.
-use Prim.Native.Nat.{◌-◌, ◌<◌}
+use Prim.Native.Nat.{◌<◌}
 use lib.ListN.{length}
 use native.Mathlib.Omega.{arith}
 use Rattle.fill.proofs.Pieces.{queued_more}
@@ -15,7 +15,7 @@ fits c =
 pub loop-at-preserved : goal.loop-at-preserved
 loop-at-preserved c =
     let v = c.loop-at.invariant in
-    let least = c.lesser-past.ensures in
+    let least = c.min-past.ensures in
     let taken = c.loop-at-test.true in (
       rw c.piece.ensures
           (queued_more v.0 v.1 (omega (arith, least, taken)) (omega (arith, least, c.requires.2)) (omega (arith, least)) (fits c)),

@@ -1,5 +1,4 @@
 -- `fill::search::first` meets its contract.
-use Prim.Native.Nat.{◌-◌}
 use mathlib.Core.Path.{◌≡◌}
 use native.Mathlib.Omega.{arith}
 use Rattle.fill.proofs.Searching.{first_ahead}
@@ -8,5 +7,5 @@ use Rattle.fill.proofs.search.first.Goals as goal
 pub returns : goal.returns
 returns c =
     let l = c.loop-i in
-    let e : l.i ≡ 64 = omega (arith, l.invariant.1, c.loop-i-test.false) in
-    first_ahead (rw e at l.invariant.0)
+    let e : l.i ≡ 64 = omega arith in
+    first_ahead (rw e at l.invariant)

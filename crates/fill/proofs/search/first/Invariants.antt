@@ -1,7 +1,6 @@
 -- `fill::search::first` meets its contract.
-use Prim.Native.Nat.{◌-◌, ◌≤◌}
 use Rattle.fill.proofs.Searching.{First}
 use Rattle.fill.proofs.search.first.Given as goal
 
 abbrev pub invariant-loop-i : goal.invariant-loop-i
-invariant-loop-i l = First l.has l.ink l.at l.sheet l.i l.least × (l.i ≤ 64)
+invariant-loop-i l = First l.has l.ink l.at l.sheet l.i l.least

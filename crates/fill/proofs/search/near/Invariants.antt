@@ -1,10 +1,6 @@
 -- `fill::search::near` meets its contract.
-use Prim.Native.Nat.{◌-◌, ◌≤◌}
 use Rattle.fill.specs.Inner.{Ahead}
 use Rattle.fill.proofs.search.near.Given as goal
 
 abbrev pub invariant-loop-at : goal.invariant-loop-at
-invariant-loop-at l = Ahead l.has l.ink l.from l.at l.sheet l.at × (l.at ≤ l.to)
-
-abbrev pub decreases-loop-at : goal.decreases-loop-at
-decreases-loop-at l = l.to - l.at
+invariant-loop-at l = Ahead l.has l.ink l.from l.at l.sheet l.at

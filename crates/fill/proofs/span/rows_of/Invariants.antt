@@ -1,10 +1,6 @@
 -- `fill::span::rows_of` meets its contract.
-use Prim.Native.Nat.{◌-◌, ◌≤◌}
 use Rattle.fill.proofs.Spanning.{Extremes}
 use Rattle.fill.proofs.span.rows_of.Given as goal
 
 abbrev pub invariant-loop-i : goal.invariant-loop-i
-invariant-loop-i l = Extremes l.work l.i l.least l.most × (l.i ≤ l.count)
-
-abbrev pub decreases-loop-i : goal.decreases-loop-i
-decreases-loop-i l = l.count - l.i
+invariant-loop-i l = Extremes l.work l.i l.least l.most
