@@ -11,8 +11,8 @@ use lib.ListN.{length, take, drop, length-append}
 use lib.Seq.{sets, sets-eq, length-sets, length-take-le, take-append_seam}
 use Rattle.sheet.specs.Reply.{Answer, done, refuse, unless, is_done, value_of, settled}
 use Rattle.sheet.specs.declared.Figure.{Figure}
-use Rattle.sheet.specs.declared.Refusal.{Refusal}
-use Rattle.sheet.specs.declared.Refusal.TheVariants.{Full}
+use Rattle.sheet.specs.declared.refusal.Refusal.{Refusal}
+use Rattle.sheet.specs.declared.refusal.Refusal.TheVariants.{Full}
 use Rattle.sheet.proofs.Figures.{Sound, figure_cases, figure_passes}
 use Rattle.sheet.proofs.Unique.{number_not_0}
 use Rattle.record.specs.Reading.{read_at}

@@ -5,7 +5,7 @@ use mathlib.Core.List.{List, [], ◌∷◌}
 use native.Mathlib.Omega.{arith}
 use lib.IntN.{pos}
 use lib.ListN.{length}
-use Rattle.sheet.specs.Reply.{Answer, done, refuse_at, told}
+use Rattle.sheet.specs.Reply.{Answer, done, refuse_at, told_file, count_answer}
 use Rattle.record.specs.Reading.{read_at}
 use Rattle.record.specs.File.{Contents, holds, refuses, also, read_from, read_all, contents_answer, file_answer}
 use Rattle.record.specs.Inner.{closed_by}
@@ -48,7 +48,7 @@ module _ (s : List ℕ) (count at : ℕ) (h : Counting s count at) where
       }
 
   -- the end and a refusal close the reading; a record does not
-  pub closes : (q : Read) → q ≡ read_at s at → NoRecord q → told (closed_by q count) ≡ file_answer s
+  pub closes : (q : Read) → q ≡ read_at s at → NoRecord q → told_file count_answer (closed_by q count) ≡ file_answer s
   closes (read.Record r) e t = absurd (never r t)
   closes read.End e t =
       let n : count ≡ count + 0 = omega arith in

@@ -10,7 +10,7 @@ use lib.IntN.{pos}
 use lib.ListN.{length, get_or, replicate, length-replicate, get_or-replicate}
 use Rattle.sheet.specs.Reply.{Answer, number, done, is_done}
 use Rattle.sheet.specs.declared.Figure.{Figure}
-use Rattle.sheet.specs.declared.Refusal.TheVariants.{Kindless}
+use Rattle.sheet.specs.declared.refusal.Refusal.TheVariants.{Kindless}
 use Rattle.sheet.proofs.Empty.{Both}
 use Rattle.sheet.proofs.Figures.{Sound, figure_passes}
 use Rattle.sheet.proofs.Unique.{number_not_0}
@@ -23,7 +23,7 @@ use Rattle.record.specs.declared.types.Record.{Record}
 use Rattle.record.specs.declared.types.Read.TheVariants as read
 use Rattle.record.proofs.Frames.{under_2}
 use Rattle.record.proofs.Again.{reads_and_writes}
-use Rattle.record.proofs.Rescued.{whole}
+use Rattle.record.proofs.Lost.{whole}
 
 module _ (f : Figure) (l : Sound f) where
   -- with just the room, and with none

@@ -5,7 +5,7 @@ use mathlib.Core.List.{List}
 use native.Mathlib.Omega.{arith}
 use lib.ListN.{length}
 use Rattle.sheet.specs.Reply.{number}
-use Rattle.sheet.specs.declared.Refusal.{Refusal}
+use Rattle.sheet.specs.declared.refusal.Refusal.{Refusal}
 use Rattle.record.specs.Layout.{word_value_at, table}
 use Rattle.record.specs.Reading.{Found, refused, payload_at, read_of, read_at}
 use Rattle.record.specs.declared.types.Read.{Read}

@@ -9,7 +9,7 @@ use Rattle.sheet.specs.Sheet as sheet
 use Rattle.sheet.specs.Sheet.{cell_of}
 use Rattle.sheet.specs.declared.Figure.{Figure}
 use Rattle.sheet.specs.declared.Figure.TheVariants.{Line, Circle, Ellipse, Curve, Cubic}
-use Rattle.sheet.specs.declared.Refusal.TheVariants.{Coordinate, Radius, Pieces, Short, Kind, Length, Kindless}
+use Rattle.sheet.specs.declared.refusal.Refusal.TheVariants.{Coordinate, Radius, Pieces, Short, Kind, Length, Kindless}
 use Rattle.record.specs.Layout.{signed, line_row, circle_row, ellipse_row, curve_row, cubic_row, table}
 use Rattle.record.specs.Reading.{values_from, limited_from, row_found, kind_found, found_at, read_at, read_answer}
 use Rattle.record.specs.Writing.{fields_bytes, record_bytes}

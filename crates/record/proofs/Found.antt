@@ -8,8 +8,8 @@ use borrow.Author.Tests.{leb-true, leb-false, eqb-true, eq-eqb}
 use lib.Dec.{leb, eqb}
 use lib.ListN.{length, get_or, length-take, length-drop}
 use Rattle.sheet.specs.Sheet as sheet
-use Rattle.sheet.specs.declared.Refusal.{Refusal}
-use Rattle.sheet.specs.declared.Refusal.TheVariants.{Short, Kind, Length, Kindless}
+use Rattle.sheet.specs.declared.refusal.Refusal.{Refusal}
+use Rattle.sheet.specs.declared.refusal.Refusal.TheVariants.{Short, Kind, Length, Kindless}
 use Rattle.record.specs.Layout.{Field, length_word, kind_word, ink, coordinate, radius, axis_a, axis_b, pieces, Form, byte, word, signed_word, form, form_width, Row, word_value_at, width, value_at, widths, kind_place, payload_place, line_row, circle_row, ellipse_row, curve_row, cubic_row, table, for_kind}
 use Rattle.record.specs.Reading.{Found, found, end, refused, unless_at, values_from, axis_at, limited, limited_from, row_found, kind_found, payload_at, found_at}
 

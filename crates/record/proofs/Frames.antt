@@ -5,7 +5,7 @@ use mathlib.Core.List.{List}
 use native.Mathlib.Omega.{arith}
 use borrow.Author.Tests.{le-leb, lt-leb}
 use lib.ListN.{length, take, drop}
-use Rattle.sheet.specs.declared.Refusal.TheVariants.{Short, Kindless}
+use Rattle.sheet.specs.declared.refusal.Refusal.TheVariants.{Short, Kindless}
 use Rattle.record.specs.Layout.{word_value_at}
 use Rattle.record.specs.Reading.{kind_found, found_at, read_of, read_at}
 use Rattle.record.specs.declared.types.Read.{Read}

@@ -17,7 +17,7 @@ pub mod Empty
 mod Ended
 mod Between
 mod Parts
-pub mod Rescued
+pub mod Lost
 mod Saving
 mod Counting
 pub mod Unique

@@ -3,7 +3,7 @@ use Prim.Native.Nat.{ℕ, zero, suc, ◌≤◌, ◌<◌}
 use mathlib.Core.Path.{◌≡◌, sym, subst}
 use lib.ListN.{length}
 use mathlib.Core.List.{List}
-use Rattle.sheet.specs.declared.Refusal.{Refusal}
+use Rattle.sheet.specs.declared.refusal.Refusal.{Refusal}
 use Rattle.record.specs.Layout.{table}
 use Rattle.record.specs.Reading.{Found, refused, payload_at, read_of, read_at}
 use Rattle.record.specs.File.{Contents, holds, refuses, also, onward, read_in, read_from, read_all}

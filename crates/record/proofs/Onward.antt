@@ -6,7 +6,7 @@ use mathlib.Core.Logic.{◌⊎◌, inl, inr}
 use native.Mathlib.Omega.{arith}
 use denote.Enum.Declared.{tag_of, declared}
 use lib.ListN.{length}
-use Rattle.sheet.specs.declared.Refusal.{Refusal}
+use Rattle.sheet.specs.declared.refusal.Refusal.{Refusal}
 use Rattle.record.specs.Reading.{read_at}
 use Rattle.record.specs.File.{Contents, holds, refuses, also, onward, read_in, read_from}
 use Rattle.record.specs.declared.types.Record.{Record}

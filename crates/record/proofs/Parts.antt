@@ -8,7 +8,7 @@ use borrow.Author.Tests.{eqb-false}
 use lib.Dec.{eqb}
 use lib.ListN.{length}
 use Rattle.sheet.specs.Reply.{number}
-use Rattle.sheet.specs.declared.Refusal.{Refusal}
+use Rattle.sheet.specs.declared.refusal.Refusal.{Refusal}
 use Rattle.record.specs.Reading.{read_at}
 use Rattle.record.specs.Rescue.{Part, sound, left_out, left_out_end, walked, parts_in, parts_from}
 use Rattle.record.specs.declared.types.Record.{Record}

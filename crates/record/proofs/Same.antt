@@ -8,7 +8,7 @@ use lib.ListN.{length, get_or, take, drop, take-append-drop, drop_of_length-le}
 use lib.Seq.{drop-drop, get_or-take, get_or-drop}
 use Rattle.sheet.specs.Figure.{number_in}
 use Rattle.sheet.specs.declared.Figure.{Figure}
-use Rattle.sheet.specs.declared.Refusal.{Refusal}
+use Rattle.sheet.specs.declared.refusal.Refusal.{Refusal}
 use Rattle.sheet.proofs.Figures.{Sound}
 use Rattle.record.specs.Layout.{Field, length_word, kind_word, Row, word_value_at, widths, line_row, circle_row, ellipse_row, curve_row, cubic_row, table}
 use Rattle.record.specs.Reading.{Found, refused, values_from, payload_at, read_of, read_at}

@@ -3,19 +3,21 @@ use Prim.Native.Nat.{ℕ, ◌+◌, ◌-◌, ◌≤◌, ◌<◌}
 use mathlib.Core.Path.{◌≡◌, refl, sym, subst, ap, ap₂, ◌∙◌}
 use mathlib.Core.List.{List, [], ◌∷◌, ◌++◌, append_assoc, append-nil}
 use native.Mathlib.Omega.{arith}
-use borrow.Author.Tests.{eqb-false, le-leb, lt-leb}
+use borrow.Author.Tests.{le-leb, lt-leb}
+use Rattle.std.specs.Prelude.{Some, None}
 use lib.IntN.{pos}
-use lib.ListN.{length, set, length-append}
+use lib.ListN.{length, set, take, drop, length-append}
 use lib.Seq.{sets, sets-eq, length-sets}
 use Rattle.sheet.specs.Reply.{number, done, refuse}
-use Rattle.sheet.specs.declared.Refusal.{Refusal}
-use Rattle.sheet.specs.declared.Refusal.TheVariants.{Room, Full}
-use Rattle.sheet.proofs.Unique.{number_not_0}
+use Rattle.sheet.specs.declared.refusal.Refusal.{Refusal}
+use Rattle.sheet.specs.declared.refusal.Refusal.TheVariants.{Room, Short, Full}
+use Rattle.laws.proofs.Written.{put_part}
+use Rattle.sheet.proofs.Unique.{number_one}
+use Rattle.record.specs.Layout.{word_value_at}
 use Rattle.record.specs.Reading.{read_at}
 use Rattle.record.specs.Writing.{put_at}
 use Rattle.record.specs.Rescue.{left_out_end, parts_from, parts, between, copy_of, offsets_of, numbers_of, Lent, lent_of, rescue_answer, rescued, Rescues}
-use Rattle.record.specs.Inner.{Follow, Ends, file_ends, refused, Ran, number_at_end, HasRoom}
-use Rattle.record.specs.declared.types.Record.{Record}
+use Rattle.record.specs.Inner.{Follow, Ends, file_ends, refused, Ran, refusal_at_end, HasRoom}
 use Rattle.record.specs.declared.types.Read.{Read}
 use Rattle.record.specs.declared.types.Read.TheVariants as read
 use Rattle.record.proofs.Between.{between_none, between_join, length-between}
@@ -61,19 +63,15 @@ module _ (s : List ℕ) (from : ℕ) where
       }
 
   -- what is no record ends them
-  pub ran : (end : ℕ) (q : Read) → Follow s from end → q ≡ read_at s end → NoRecord q → Ran s from end (number_at_end q)
+  pub ran : (end : ℕ) (q : Read) → Follow s from end → q ≡ read_at s end → NoRecord q → Ran s from end (refusal_at_end q)
   ran end (read.Record r) f e t = absurd (never r t)
   ran end read.End f e t = record { follow = f; ends = file_ends e }
   ran end (read.Refused q o) f e t = record { follow = f; ends = refused q o e }
 
 module _ (s : List ℕ) (at : ℕ) where
-  not_0 : (q : Refusal) → number q ≡ 0 → ⊥
-  not_0 q = eqb-false (number q) 0 (number_not_0 q)
-
-  -- with number 0 no byte is left, with any other something is left out
-  pub file_ends_lem : (n : ℕ) → Ends s at n → n ≡ 0 → length s ≤ at
-  file_ends_lem _ (file_ends e) z = at_file_end s at e
-  file_ends_lem _ (refused q o e) z = absurd (not_0 q z)
+  -- with nothing refused no byte is left, else something is left out
+  pub file_ends_lem : Ends s at None → length s ≤ at
+  file_ends_lem (file_ends e) = at_file_end s at e
 
   pub record Left (n : ℕ) : Type 0 where
     pub here : Refused s at n
@@ -81,11 +79,14 @@ module _ (s : List ℕ) (at : ℕ) where
     pub offsets : offsets_of (parts_from s at) ≡ at ∷ offsets_of (parts_from s (left_out_end s at n))
     pub numbers : numbers_of (parts_from s at) ≡ n ∷ numbers_of (parts_from s (left_out_end s at n))
 
-  pub left_out : (n : ℕ) → Ends s at n → (n ≡ 0 → ⊥) → Left n
-  left_out _ (file_ends e) z = absurd (z refl)
-  left_out _ (refused q o e) z =
+  pub left_out : (q : Refusal) → Ends s at (Some q) → Left (number q)
+  left_out _ (refused q o e) =
       let p = parts_refused s at q o e in
       record { here = at_refusal s at q o e; copies = ap (copy_of s) p; offsets = ap offsets_of p; numbers = ap numbers_of p }
+
+  -- but for a length that counts too much, all that it counts is there
+  pub counted_left : (q : Refusal) → Ends s at (Some q) → (q ≡ Short → ⊥) → at + 2 + word_value_at s at ≤ length s
+  counted_left q e n = (left_out q e).here.whole (λ m. n (number_one q Short m))
 
 -- A lent list into which the first of all its values were put, so many, and those that are left.
 pub record Put (all lent now rest : List ℕ) (count : ℕ) : Type 0 where
@@ -137,6 +138,14 @@ begins s l = record {
   inside = omega arith;
 }
 
+-- bytes of the file copied over as many from a place on are put there
+pub put_between : (s file : List ℕ) (at to copied : ℕ) (m : List ℕ) → at ≤ to → to ≤ length file → copied + (to - at) ≤ length s → m ≡ between file at to
+    → take copied s ++ (m ++ drop (copied + (to - at) - copied) (drop copied s)) ≡ sets s copied (between file at to)
+put_between s file at to copied m h g f e =
+    let n = length-between file at to h g in
+    subst (λ (k : ℕ). take copied s ++ (m ++ drop (copied + k - copied) (drop copied s)) ≡ sets s copied (between file at to)) n
+    (put_part s (between file at to) m copied (omega (arith, n, f)) e)
+
 -- a turn: the records that follow each other are copied ..
 pub kept : (s : List ℕ) (l t : Lent) (at copied listed end : ℕ) (copy : List ℕ) → Saving s l t at copied listed → Follow s at end
     → copy ≡ sets t.copy copied (between s at end) → Saving s l (lent_of copy t.offsets t.numbers) end (copied + (end - at)) listed
@@ -153,22 +162,23 @@ kept s l t at copied listed end copy h f e =
     }
 
 -- .. and what is refused where they end is listed
-pub told : (s : List ℕ) (l t : Lent) (at copied listed n next : ℕ) → Saving s l t at copied listed → Ends s at n → (n ≡ 0 → ⊥)
-    → next ≡ left_out_end s at n
+pub told : (s : List ℕ) (l t : Lent) (at copied listed : ℕ) (q : Refusal) (n next : ℕ) → Saving s l t at copied listed → Ends s at (Some q)
+    → n ≡ number q → next ≡ left_out_end s at (number q)
     → Saving s l (lent_of t.copy (set t.offsets listed at) (set t.numbers listed n)) next copied (listed + 1)
-told s l t at copied listed n next h e z to =
-    let k = left_out s at n e z in
-    let m = leaves s at n k.here in
-    let after = lent_of t.copy (set t.offsets listed at) (set t.numbers listed n) in
-    subst (λ (next : ℕ). Saving s l after next copied (listed + 1)) (sym to)
+told s l t at copied listed q n next h e is to =
+    let k = left_out s at q e in
+    let m = leaves s at (number q) k.here in
+    let after = λ (n : ℕ). lent_of t.copy (set t.offsets listed at) (set t.numbers listed n) in
+    subst (λ (n : ℕ). Saving s l (after n) next copied (listed + 1)) (sym is)
+    (subst (λ (next : ℕ). Saving s l (after (number q)) next copied (listed + 1)) (sym to)
     (record {
       copy = subst (λ (rest : List ℕ). Put (copy_of s (parts s)) l.copy t.copy rest copied) k.copies h.copy;
       offsets = put_more h.offsets (at ∷ []) _ _ _ k.offsets refl refl;
-      numbers = put_more h.numbers (n ∷ []) _ _ _ k.numbers refl refl;
+      numbers = put_more h.numbers (number q ∷ []) _ _ _ k.numbers refl refl;
       few = omega (arith, h.few, m.on);
       lines = omega (arith, h.lines, m.on);
       inside = m.inside;
-    })
+    }))
 
 module _ (s : List ℕ) (l : Lent) where
   pub no_bytes : length l.copy < length s → Rescues s l (refuse Full) l

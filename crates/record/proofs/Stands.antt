@@ -6,7 +6,7 @@ use mathlib.Core.Bool.{true}
 use lib.ListN.{length}
 use Rattle.sheet.specs.Sheet.{coordinate, within_limits}
 use Rattle.sheet.specs.declared.Cell.{Cell}
-use Rattle.sheet.specs.declared.Refusal.{Refusal}
+use Rattle.sheet.specs.declared.refusal.Refusal.{Refusal}
 use Rattle.laws.proofs.Tests.{halves}
 use Rattle.sheet.proofs.Figures.{Sound, cell_in_lem, axes_in}
 use Rattle.sheet.proofs.Limits.{limits_x, limits_y}

@@ -3,7 +3,7 @@ use Prim.Native.Nat.{ℕ}
 use mathlib.Core.Path.{◌≡◌}
 use mathlib.Core.List.{List}
 use borrow.Author.Tests.{ne_eqb}
-use Rattle.sheet.specs.declared.Refusal.TheVariants.{Kind}
+use Rattle.sheet.specs.declared.refusal.Refusal.TheVariants.{Kind}
 use Rattle.record.specs.Layout.{kind_place, line_row, circle_row, ellipse_row, curve_row, cubic_row, table}
 use Rattle.record.specs.Reading.{refused, row_found, kind_found}
 

@@ -3,7 +3,7 @@ use Prim.Native.Nat.{ℕ, ◌≤◌, ◌<◌}
 use mathlib.Core.Path.{◌≡◌, refl, ap, ◌∙◌}
 use mathlib.Core.List.{List}
 use lib.ListN.{length}
-use Rattle.sheet.specs.declared.Refusal.{Refusal}
+use Rattle.sheet.specs.declared.refusal.Refusal.{Refusal}
 use Rattle.record.specs.Layout.{line_row, circle_row, ellipse_row, curve_row, cubic_row, table}
 use Rattle.record.specs.Reading.{Found, refused, values_from, payload_at, answer_of, read_of, read_at, read_answer, told_read}
 use Rattle.record.specs.declared.types.Read.{Read}

@@ -1,21 +1,21 @@
--- Two replies of a read, or of a rescue, that meet one statement are equal: its telling is one-to-one.
+-- Two replies of a read, or of a done rescue, that meet one statement are equal: its telling is one-to-one.
 use mathlib.Core.Path.{◌≡◌, refl, sym, ap, ◌∙◌}
 use mathlib.Core.List.{List, [], ◌∷◌}
 use mathlib.Core.Bool.{cond}
 use lib.IntN.{ℤ, nat_abs}
 use lib.ListN.{drop}
-use Rattle.sheet.specs.Reply.{Answer, is_done}
+use Rattle.std.specs.Prelude.{Result}
+use Rattle.sheet.specs.Reply.{Answer, told, is_done}
+use Rattle.sheet.specs.declared.refusal.Refusal.{Refusal}
 use Rattle.sheet.specs.Figure.{number_in}
 use Rattle.sheet.proofs.Figures.{figure_of, figure_of_lem}
-use Rattle.sheet.proofs.Unique.{refusal, refusal-number, number_not_0}
+use Rattle.sheet.proofs.Unique.{refusal, refusal-number, number_not_0, told_one}
 use Rattle.record.specs.Reading.{told_read}
-use Rattle.record.specs.Rescue.{told_rescue}
+use Rattle.record.specs.Rescue.{rescued_answer}
 use Rattle.sheet.specs.declared.Figure.{Figure}
-use Rattle.record.specs.declared.types.Record.{Record}
 use Rattle.record.specs.declared.types.Read.{Read}
 use Rattle.record.specs.declared.types.Read.TheVariants as read
-use Rattle.record.specs.declared.types.Rescue.{Rescue}
-use Rattle.record.specs.declared.types.Rescue.TheVariants as rescue
+use Rattle.record.specs.declared.types.Rescued.{Rescued}
 
 -- the reply that an answer tells
 done_of : List ℤ → Read
@@ -36,14 +36,13 @@ read_told_lem (read.Refused q at) = simp (number_not_0 q, refusal-number q)
 pub read_one : (r q : Read) → told_read r ≡ told_read q → r ≡ q
 read_one r q e = sym (read_told_lem r) ∙ ap read_told e ∙ read_told_lem q
 
--- the same of a rescue
-rescue_told : Answer → Rescue
-rescue_told a = cond (is_done a) (rescue.Done (number_in a.values 0) (number_in a.values 1)) (rescue.Refused (refusal a.number))
+-- two done rescues told alike are equal
+pub rescued_one : (r q : Rescued) → rescued_answer r ≡ rescued_answer q → r ≡ q
+rescued_one r q e =
+    let copied : r.copied ≡ q.copied = ap (λ (a : Answer). number_in a.values 0) e in
+    let listed : r.listed ≡ q.listed = ap (λ (a : Answer). number_in a.values 1) e in
+    λ i. record { copied = copied i; listed = listed i }
 
-rescue_told_lem : (r : Rescue) → rescue_told (told_rescue r) ≡ r
-unfolding rescue_told
-rescue_told_lem (rescue.Done copied listed) = refl
-rescue_told_lem (rescue.Refused q) = simp (number_not_0 q, refusal-number q)
-
-pub rescue_one : (r q : Rescue) → told_rescue r ≡ told_rescue q → r ≡ q
-rescue_one r q e = sym (rescue_told_lem r) ∙ ap rescue_told e ∙ rescue_told_lem q
+-- and so are two rescues, done or refused
+pub rescue_one : (r q : Result Rescued Refusal) → told rescued_answer r ≡ told rescued_answer q → r ≡ q
+rescue_one = told_one rescued_answer (λ r. refl) rescued_one

@@ -1,7 +1,7 @@
 -- Document 01, "Record file": a whole file, read to its end.
 use Rattle.std.specs.Prelude.{ℕ, zero, suc, ◌-◌, List, [], ◌∷◌, pos, length}
 use Rattle.sheet.specs.Reply.{Answer, done, refuse_at}
-use Rattle.sheet.specs.declared.Refusal.{Refusal}
+use Rattle.sheet.specs.declared.refusal.Refusal.{Refusal}
 use Rattle.record.specs.Reading.{read_at}
 use Rattle.record.specs.declared.types.Record.{Record}
 use Rattle.record.specs.declared.types.Read.{Read}

@@ -5,4 +5,4 @@ pub mod Reading
 pub mod Writing
 pub mod Again
 pub mod Rescue
-pub mod Rescued
+pub mod Lost

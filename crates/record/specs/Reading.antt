@@ -3,8 +3,8 @@ use Rattle.std.specs.Prelude.{ℕ, ◌+◌, ◌-◌, List, [], ◌∷◌, Bool, 
 use Rattle.sheet.specs.Sheet as sheet
 use Rattle.sheet.specs.Reply.{Answer, done, refuse_at}
 use Rattle.sheet.specs.Figure.{kind_of, values_of, number_in}
-use Rattle.sheet.specs.declared.Refusal.{Refusal}
-use Rattle.sheet.specs.declared.Refusal.TheVariants.{Coordinate, Radius, Pieces, Short, Kind, Length, Kindless}
+use Rattle.sheet.specs.declared.refusal.Refusal.{Refusal}
+use Rattle.sheet.specs.declared.refusal.Refusal.TheVariants.{Coordinate, Radius, Pieces, Short, Kind, Length, Kindless}
 use Rattle.record.specs.Layout.{Field, length_word, kind_word, ink, coordinate, radius, axis_a, axis_b, pieces, Row, word_value_at, width, value_at, kind_place, payload_place, table, for_kind}
 use Rattle.record.specs.declared.types.Read.{Read}
 use Rattle.record.specs.declared.types.Read.TheVariants.{Record, End, Refused}

@@ -1,16 +1,15 @@
 -- Document 02, K11: rescuing a damaged file.
 use Rattle.std.specs.Prelude.{ℕ, zero, suc, ◌+◌, ◌-◌, ◌≡◌, List, [], ◌∷◌, ◌++◌, cond, ◌&&◌, leb, eqb, pos, length, take, drop}
-use Rattle.sheet.specs.Reply.{Answer, number, done, refuse, unless, settled}
-use Rattle.sheet.specs.declared.Refusal.{Refusal}
-use Rattle.sheet.specs.declared.Refusal.TheVariants.{Room, Short, Full}
+use Rattle.sheet.specs.Reply.{Answer, number, done, unless, settled}
+use Rattle.sheet.specs.declared.refusal.Refusal.{Refusal}
+use Rattle.sheet.specs.declared.refusal.Refusal.TheVariants.{Room, Short, Full}
 use Rattle.record.specs.Layout.{word_value_at, kind_place}
 use Rattle.record.specs.Reading.{read_at}
 use Rattle.record.specs.Writing.{put_at}
 use Rattle.record.specs.declared.types.Record.{Record}
 use Rattle.record.specs.declared.types.Read.{Read}
 use Rattle.record.specs.declared.types.Read.TheVariants as read
-use Rattle.record.specs.declared.types.Rescue.{Rescue}
-use Rattle.record.specs.declared.types.Rescue.TheVariants as rescue
+use Rattle.record.specs.declared.types.Rescued.{Rescued}
 
 -- A part of a file: a record that reads well, or bytes that are left out, why, and from which offset to which.
 pub data Part : Type 0 where
@@ -96,7 +95,6 @@ pub record Rescues (file : List ℕ) (lent : Lent) (reply : Answer) (left : Lent
   pub tells : reply ≡ rescue_answer file lent
   pub leaves : left ≡ settled (rescue_answer file lent) (rescued file lent) lent
 
--- the code's answer in the paper's words
-abbrev pub told_rescue : Rescue → Answer
-told_rescue (rescue.Done copied listed) = done (pos copied ∷ pos listed ∷ [])
-told_rescue (rescue.Refused q) = refuse q
+-- what is told of a done rescue: 0 with both counts
+abbrev pub rescued_answer : Rescued → Answer
+rescued_answer r = done (pos r.copied ∷ pos r.listed ∷ [])

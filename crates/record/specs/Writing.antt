@@ -3,7 +3,7 @@ use Rattle.std.specs.Prelude.{ℕ, ◌+◌, ◌-◌, ◌≡◌, List, [], ◌∷
 use Rattle.sheet.specs.Reply.{Answer, done, unless, settled}
 use Rattle.sheet.specs.Figure.{kind_of, values_of, if_figure}
 use Rattle.sheet.specs.declared.Figure.{Figure}
-use Rattle.sheet.specs.declared.Refusal.TheVariants.{Full}
+use Rattle.sheet.specs.declared.refusal.Refusal.TheVariants.{Full}
 use Rattle.record.specs.Layout.{Field, length_word, kind_word, Row, width, unsigned, bytes_of, table, for_kind}
 
 -- the bytes of a field with a value, and of fields that follow each other with theirs

@@ -1,8 +1,7 @@
 -- `record::check` meets its contract.
-use Prim.Native.Nat.{◌-◌}
 use mathlib.Core.Path.{◌≡◌, sym, ap, ◌∙◌}
 use native.Mathlib.Omega.{arith}
-use Rattle.sheet.specs.Reply.{told}
+use Rattle.sheet.specs.Reply.{told_file, count_answer}
 use Rattle.record.specs.Reading.{read_at}
 use Rattle.record.specs.declared.types.Read.TheVariants as read
 use Rattle.record.proofs.Stands.{stands}
@@ -17,7 +16,7 @@ loop-record-init c = begins c.args.file.now
 pub returns-in_default : goal.returns-in_default
 returns-in_default c =
     let loop = c.loop-record in
-    ap told c.closed.ensures ∙ closes _ loop.count loop.at loop.invariant c.read-answer.result c.read-answer.ensures.value (opened c.in_default.in_default-own.keys2)
+    ap (told_file count_answer) c.closed.ensures ∙ closes _ loop.count loop.at loop.invariant c.read-answer.result c.read-answer.ensures.value (opened c.in_default.in_default-own.keys2)
 
 -- the record that was read
 is_record : (c : In-Record)

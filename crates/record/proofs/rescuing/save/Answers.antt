@@ -1,16 +1,15 @@
 -- `record::rescuing::save` meets its contract.
-use Prim.Native.Nat.{ℕ, ◌+◌, ◌*◌, ◌-◌, ◌≤◌, ◌<◌}
+use Prim.Native.Nat.{ℕ, ◌+◌, ◌-◌, ◌≤◌}
+use mathlib.Core.Path.{subst, ◌∙◌}
 use mathlib.Core.List.{List}
 use native.Mathlib.Omega.{arith}
 use lib.ListN.{length}
-use mir.Syntax.{w64}
-use mir.Val.{Fits}
-use Rattle.record.specs.Rescue.{between}
-use Rattle.record.proofs.Between.{length-between}
+use Rattle.std.specs.Prelude.{Some}
+use Rattle.record.specs.Inner.{Ends}
 use Rattle.record.proofs.Parts.{leaves}
-use Rattle.record.proofs.Saving.{Carried, carried, Left, left_out, file_ends_lem, put_length, begins, kept, told, saved}
+use Rattle.record.proofs.Saving.{Carried, carried, left_out, file_ends_lem, put_length, put_between, begins, kept, told, saved}
 use Rattle.record.proofs.rescuing.save.Goals as goal
-use Rattle.record.proofs.rescuing.save.Goals.{After-sound_run-run, Then-number-ne0}
+use Rattle.record.proofs.rescuing.save.Goals.{After-sound_run-run, After-left_to-at}
 
 pub loop-at-init : goal.loop-at-init
 loop-at-init c = begins _ _
@@ -22,64 +21,59 @@ file c = c.args.file.now
 run : (c : After-sound_run-run) → Carried (file c) c.loop-at.at c.sound_run-run.result.end
 run c = carried _ _ c.loop-at.invariant.inside _ c.sound_run-run.ensures.follow
 
-pub slice_bounds-put-count : goal.slice_bounds-put-count
-slice_bounds-put-count c = (run (goal.at.slice_bounds-put-count c).After-sound_run-run).on
-
-pub slice_bounds-put-start : goal.slice_bounds-put-start
-slice_bounds-put-start c = (run (goal.at.slice_bounds-put-start c).After-sound_run-run).on
-
-pub slice_bounds-put-end : goal.slice_bounds-put-end
-slice_bounds-put-end c = (run (goal.at.slice_bounds-put-end c).After-sound_run-run).inside
-
 -- the copy has room for them
-fits : (c : After-sound_run-run) → let l = c.loop-at in l.copied + length (between (file c) l.at c.sound_run-run.result.end) ≤ length l.copy
+fits : (c : After-sound_run-run) → let l = c.loop-at in l.copied + (c.sound_run-run.result.end - l.at) ≤ length l.copy
 fits c =
     let k = run c in
     let inv = c.loop-at.invariant in
-    omega (arith, length-between (file c) _ _ k.on k.inside, k.on, k.inside, inv.few, put_length inv.copy, c.requires.copy)
+    omega (arith, k.on, k.inside, inv.few, put_length inv.copy, c.requires.copy)
 
-pub overflow_sub-copied : goal.overflow_sub-copied
-overflow_sub-copied c = (run (goal.at.overflow_sub-copied c).After-sound_run-run).on
+pub overflow_sub-more : goal.overflow_sub-more
+overflow_sub-more c = (run c).on
+
+pub slice_bounds-copy_from_slice-end : goal.slice_bounds-copy_from_slice-end
+slice_bounds-copy_from_slice-end c = fits c
+
+pub slice_bounds-copy_from_slice-count-in-loop-at : goal.slice_bounds-copy_from_slice-count-in-loop-at
+slice_bounds-copy_from_slice-count-in-loop-at c = (run (goal.at.slice_bounds-copy_from_slice-count-in-loop-at c).After-sound_run-run).on
+
+pub slice_bounds-copy_from_slice-start-in-loop-at : goal.slice_bounds-copy_from_slice-start-in-loop-at
+slice_bounds-copy_from_slice-start-in-loop-at c = (run (goal.at.slice_bounds-copy_from_slice-start-in-loop-at c).After-sound_run-run).on
+
+pub slice_bounds-copy_from_slice-end-in-loop-at : goal.slice_bounds-copy_from_slice-end-in-loop-at
+slice_bounds-copy_from_slice-end-in-loop-at c = (run (goal.at.slice_bounds-copy_from_slice-end-in-loop-at c).After-sound_run-run).inside
 
 -- what is left out where they end
-left : (c : Then-number-ne0) → Left (file (goal.at.offset_bounds-offsets-listed c).After-sound_run-run) c.sound_run-run.result.end c.sound_run-run.result.number
-left c = left_out _ _ _ c.sound_run-run.ensures.ends c.if-number-ne0.true
+ends : (c : After-left_to-at) → Ends c.args.file.now c.sound_run-run.result.end (Some c.in-Some.refusal)
+ends c = subst (Ends c.args.file.now c.sound_run-run.result.end) c.in-Some.is c.sound_run-run.ensures.ends
 
--- each list has a place for it
-places : (c : Then-number-ne0) → let l = c.loop-at in (l.listed < length l.offsets) × (l.listed < length l.numbers)
-places c =
-    let inv = c.loop-at.invariant in (
-      omega (arith, (run (goal.at.offset_bounds-offsets-listed c).After-sound_run-run).on, inv.lines, (left c).here.here, put_length inv.offsets, c.requires.offsets),
-      omega (arith, (run (goal.at.offset_bounds-offsets-listed c).After-sound_run-run).on, inv.lines, (left c).here.here, put_length inv.numbers, c.requires.numbers),
-    )
+pub left_to-at-requires : goal.left_to-at-requires
+left_to-at-requires c = subst (Ends c.args.file.now c.sound_run-run.result.end) c.in-Some.is c.sound_run-run.ensures.ends
 
--- whose address, too, fits the machine's words
-addressed : (c : Then-number-ne0) → Fits w64 (c.loop-at.listed * 8)
-addressed c =
-    omega (arith, places c, put_length c.loop-at.invariant.offsets, c.well_formed)
+pub loop-at-smaller-in-Some : goal.loop-at-smaller-in-Some
+loop-at-smaller-in-Some c =
+    let m = leaves _ _ _ (left_out _ _ _ (ends c)).here in
+    omega (arith, (run (goal.at.loop-at-smaller-in-Some c).After-sound_run-run).on, m.on, m.inside, c.left_to-at.ensures, c.loop-at-test.true)
 
-pub offset_bounds-offsets-listed : goal.offset_bounds-offsets-listed
-offset_bounds-offsets-listed c = addressed c
-
-pub loop-at-smaller-then-number-ne0 : goal.loop-at-smaller-then-number-ne0
-loop-at-smaller-then-number-ne0 c =
-    let m = leaves _ _ _ (left (goal.at.loop-at-smaller-then-number-ne0 c).Then-number-ne0).here in
-    omega (arith, (run (goal.at.loop-at-smaller-then-number-ne0 c).After-sound_run-run).on, m.on, m.inside, c.left_to-at.ensures, c.loop-at-test.true)
-
-pub loop-at-preserved-then-number-ne0 : goal.loop-at-preserved-then-number-ne0
-loop-at-preserved-then-number-ne0 c =
-    let put = c.put.ensures in
-    let copied = kept _ _ _ c.loop-at.at c.loop-at.copied c.loop-at.listed _ _ c.loop-at.invariant c.sound_run-run.ensures.follow put in
-    told _ _ _ _ _ c.loop-at.listed _ _ copied c.sound_run-run.ensures.ends c.if-number-ne0.true c.left_to-at.ensures
+pub loop-at-preserved-in-Some : goal.loop-at-preserved-in-Some
+loop-at-preserved-in-Some c =
+    let l = c.loop-at in
+    let k = run (goal.at.loop-at-preserved-in-Some c).After-sound_run-run in
+    let put = put_between l.copy _ l.at _ l.copied _ k.on k.inside (fits (goal.at.loop-at-preserved-in-Some c).After-sound_run-run) c.copy_from_slice.ensures.after in
+    let copied = kept _ _ _ l.at l.copied l.listed _ _ l.invariant c.sound_run-run.ensures.follow put in
+    told _ _ _ _ _ l.listed _ _ _ copied (ends c) (c.from.ensures ∙ c.number.ensures) c.left_to-at.ensures
 
 pub loop-at-smaller : goal.loop-at-smaller
 loop-at-smaller c =
-    omega (arith, (run (goal.at.loop-at-smaller c).After-sound_run-run).on, file_ends_lem _ _ _ c.sound_run-run.ensures.ends c.if-number-ne0.false, c.loop-at-test.true)
+    let over = file_ends_lem _ _ (subst (Ends c.args.file.now c.sound_run-run.result.end) c.in_default.is c.sound_run-run.ensures.ends) in
+    omega (arith, (run (goal.at.loop-at-smaller c).After-sound_run-run).on, over, c.loop-at-test.true)
 
 pub loop-at-preserved : goal.loop-at-preserved
 loop-at-preserved c =
     let l = c.loop-at in
-    kept _ _ _ l.at l.copied l.listed _ _ l.invariant c.sound_run-run.ensures.follow c.put.ensures
+    let k = run (goal.at.loop-at-preserved c).After-sound_run-run in
+    kept _ _ _ l.at l.copied l.listed _ _ l.invariant c.sound_run-run.ensures.follow
+    (put_between l.copy _ l.at _ l.copied _ k.on k.inside (fits (goal.at.loop-at-preserved c).After-sound_run-run) c.copy_from_slice.ensures.after)
 
 pub returns : goal.returns
 returns c =

@@ -1,5 +1,4 @@
 -- `record::rescuing::sound_run` meets its contract.
-use Prim.Native.Nat.{◌-◌}
 use mathlib.Core.Path.{◌≡◌, sym, subst, ◌∙◌}
 use native.Mathlib.Omega.{arith}
 use Rattle.record.specs.Reading.{read_at}
@@ -17,7 +16,7 @@ loop-record-init c = Follow.none
 pub returns-in_default : goal.returns-in_default
 returns-in_default c =
     let loop = c.loop-record in
-    subst (Ran _ _ loop.end) (sym c.end_number-number.ensures)
+    subst (Ran _ _ loop.end) (sym c.refusal_of-refusal.ensures)
     (ran _ _ loop.end c.read-answer.result loop.invariant c.read-answer.ensures.value (opened c.in_default.in_default-own.keys2))
 
 -- the record that was read

@@ -1,45 +1,17 @@
 -- `record::writing::write_circle` meets its contract.
-use mathlib.Core.Path.{◌≡◌}
 use mathlib.Core.List.{◌++◌}
-use mathlib.Core.Bool.{true}
-use native.Mathlib.Omega.{arith}
-use Rattle.laws.proofs.Tests.{no, yes}
-use Rattle.sheet.specs.Sheet.{within_limits}
-use Rattle.sheet.specs.declared.Figure.TheVariants.{Circle}
-use Rattle.sheet.specs.declared.Refusal.TheVariants.{Coordinate, Radius}
-use Rattle.sheet.proofs.Figures.{Sound}
 use Rattle.record.specs.Layout.{bytes_of}
 use Rattle.record.specs.Inner.{head_bytes, cell_bytes}
 use Rattle.record.proofs.Puts.{then}
 use Rattle.record.proofs.Records.{circle_bytes, circle_size}
-use Rattle.record.proofs.Written.{refuses, full, writes}
+use Rattle.record.proofs.Written.{writes}
 use Rattle.record.proofs.writing.write_circle.Goals as goal
-use Rattle.record.proofs.writing.write_circle.Goals.{Else-not-are_axes, Else-not-in_limits}
-
-pub returns-then-not-in_limits : goal.returns-then-not-in_limits
-returns-then-not-in_limits c = refuses _ _ _ _ Coordinate (λ a. simp (no _ _ c.in_limits.ensures c.if-not-in_limits.true-raw))
-
--- what the tests showed
-centre_in : (c : Else-not-in_limits) → within_limits c.args.centre ≡ true
-centre_in c = yes _ _ c.in_limits.ensures c.if-not-in_limits.false-raw
-
-pub returns-then-not-are_axes : goal.returns-then-not-are_axes
-returns-then-not-are_axes c = refuses _ _ _ _ Radius (λ a. simp (centre_in (goal.at.returns-then-not-are_axes c).Else-not-in_limits, no _ _ c.are_axes.ensures c.if-not-are_axes.true-raw))
-
-centre_in_2 : (c : Else-not-are_axes) → within_limits c.args.centre ≡ true
-centre_in_2 c = yes _ _ c.in_limits.ensures c.if-not-in_limits.false-raw
-
-sound : (c : Else-not-are_axes) → let a = c.args in Sound (Circle a.centre a.r)
-sound c = (centre_in_2 c, yes _ _ c.are_axes.ensures c.if-not-are_axes.false-raw)
-
-pub returns-then-free_of-lt11 : goal.returns-then-free_of-lt11
-returns-then-free_of-lt11 c = full _ _ _ _ (sound (goal.at.returns-then-free_of-lt11 c).Else-not-are_axes) 11 (circle_size _ _) (omega (arith, c.free_of.ensures, c.if-free_of-lt11.true))
 
 pub returns : goal.returns
 returns c =
     let a = c.args in
     let s = a.buffer.now in
-    writes _ _ _ s (sound (goal.at.returns c).Else-not-are_axes) 11 (circle_size _ _) (omega (arith, c.free_of.ensures, c.if-free_of-lt11.false)) _ _
+    writes _ _ _ s 11 (circle_size a.centre a.r) c.in_ok-after.ensures.writable.0 _ c.in_ok-after.ensures.tells _ _
     (circle_bytes a.ink a.centre a.r)
     (then s (head_bytes 9 2 a.ink ++ cell_bytes a.centre) (bytes_of 2 a.r) a.filled
     (then s (head_bytes 9 2 a.ink) (cell_bytes a.centre) a.filled c.put_head.ensures c.put_cell.ensures)

@@ -10,8 +10,8 @@ use lib.IntN.{pos}
 use lib.ListN.{length, take, drop, drop_of_length-le, length-drop, length-append}
 use lib.Seq.{take_at, drop_at}
 use Rattle.sheet.specs.Reply.{Answer, number, done, unless, is_done, value_of}
-use Rattle.sheet.specs.declared.Refusal.{Refusal}
-use Rattle.sheet.specs.declared.Refusal.TheVariants.{Room, Full}
+use Rattle.sheet.specs.declared.refusal.Refusal.{Refusal}
+use Rattle.sheet.specs.declared.refusal.Refusal.TheVariants.{Room, Full}
 use Rattle.laws.proofs.Products.{lt_or_ge}
 use Rattle.sheet.proofs.Figures.{Sound}
 use Rattle.sheet.proofs.Unique.{number_not_0, one_value}
@@ -20,7 +20,7 @@ use Rattle.record.specs.File.{holds, also, read_from, read_all}
 use Rattle.record.specs.Writing.{record_bytes, record_size, put_at}
 use Rattle.record.specs.Again.{Bytes, item_of, record_at, records_from}
 use Rattle.record.specs.Rescue.{Part, sound, left_out, left_out_end, parts_from, parts, between, sound_ones, copy_of, offsets_of, numbers_of, Lent, rescue_answer, rescued, Rescues}
-use Rattle.record.specs.Rescued.{Alike, Accepted, Among, Accounted, NothingLost}
+use Rattle.record.specs.Lost.{Alike, Accepted, Among, Accounted, NothingLost}
 use Rattle.record.specs.declared.types.Record.{Record}
 use Rattle.record.specs.declared.types.Read.TheVariants as read
 use Rattle.record.proofs.Again.{items_read}
