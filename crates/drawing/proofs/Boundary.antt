@@ -6,9 +6,10 @@ use native.Mathlib.Omega.{arith}
 use mathlib.Core.Logic.{inl, inr}
 use mathlib.Core.Bool.{Bool, true, false, cond, ◌||◌, and_comm}
 use lib.Dec.{T}
-use lib.IntN.{pos}
+use lib.IntN.{ℤ, pos}
 use lib.Ieee.{Float}
 use lib.ListN.{length}
+use Rattle.std.specs.Prelude.{Result, Ok, Err}
 use Rattle.laws.proofs.Tests.{or_l, or_r, or_e, same}
 use Rattle.sheet.specs.Sheet.{within_limits, cell, cell_of, paint, cells_on}
 use Rattle.sheet.specs.Repaint.{nothing, join, box_of}
@@ -17,8 +18,9 @@ use Rattle.sheet.specs.Drawing.{only, paint_all, box_all, if_sheet, Draws}
 use Rattle.sheet.specs.declared.Cell.{Cell}
 use Rattle.sheet.specs.declared.Shape.{Shape}
 use Rattle.sheet.specs.declared.Figure.{Figure}
-use Rattle.sheet.specs.declared.Refusal.TheVariants.{Coordinate}
-use Rattle.sheet.specs.declared.Refusal.TheVariants as refusal
+use Rattle.sheet.specs.declared.refusal.Refusal.{Refusal}
+use Rattle.sheet.specs.declared.refusal.Refusal.TheVariants.{Coordinate}
+use Rattle.sheet.specs.declared.refusal.Refusal.TheVariants as refusal
 use Rattle.sheet.specs.declared.repaint.Rectangle.{Rectangle}
 use Rattle.sheet.proofs.Boxes.{box_as, box_none, box_then}
 use Rattle.sheet.proofs.Lent.{sheet_done}
@@ -27,12 +29,11 @@ use Rattle.line.specs.Rule.{on_line}
 use Rattle.line.specs.Draw.{line_answer, line_drawing}
 use Rattle.line.proofs.OnLine.{on_line_either}
 use Rattle.curve.proofs.Reversed.{on_curve_either}
+use Rattle.survey.specs.Cell.{found_cell}
 use Rattle.survey.specs.Metres.{sound, eastward, northward, line_in_cells, figure_in, in_cells}
-use Rattle.survey.specs.declared.Found.{Found}
-use Rattle.survey.specs.declared.Found.TheVariants.{At, NoCell}
 use Rattle.survey.specs.declared.Survey.{Survey}
 use Rattle.survey.specs.declared.Metres.TheVariants as metres
-use Rattle.survey.specs.declared.InCells.TheVariants as cells
+use Rattle.survey.proofs.Cells.{CellOf, cell_right}
 use Rattle.record.specs.File.{Contents, holds, read_all, contents_answer, file_answer}
 use Rattle.record.specs.declared.types.Record.{Record}
 use Rattle.drawing.specs.Figure.{on_figure}
@@ -53,27 +54,43 @@ line_drawing_either k ink a b =
       figures = only ink (line_either a b i);
     }
 
+-- a float that has no cell is refused with 7
+abbrev Missed : Result ℤ Refusal → Type 0
+Missed (Ok k) = Unit {0}
+Missed (Err r) = r ≡ refusal.NoCell
+
+missed : (q : Float) → Missed (found_cell q)
+missed q = by (found_cell q) (cell_right q)
+  where
+    by : (r : Result ℤ Refusal) → CellOf q r → Missed r
+    by (Ok k) c = tt
+    by (Err r) c = c.0
+
 -- One line in metres, likewise: its cells are found from either end.
 module _ (k : Shape) (ink : ℕ) where
-  found_either : (p q r s : Found) → cells_drawing k ink (line_in_cells p q r s) ≡ cells_drawing k ink (line_in_cells r s p q)
-  found_either (At a) (At b) (At c) (At d) = line_drawing_either k ink (cell a b) (cell c d)
-  found_either (At a) (At b) (At c) NoCell = refl
-  found_either (At a) (At b) NoCell s = refl
-  found_either (At a) NoCell (At c) (At d) = refl
-  found_either (At a) NoCell (At c) NoCell = refl
-  found_either (At a) NoCell NoCell s = refl
-  found_either NoCell q (At c) (At d) = refl
-  found_either NoCell q (At c) NoCell = refl
-  found_either NoCell q NoCell s = refl
+  refused_alike : (e f : Refusal) → e ≡ refusal.NoCell → f ≡ refusal.NoCell → cells_drawing k ink (Err e) ≡ cells_drawing k ink (Err f)
+  refused_alike e f p q = ap (λ (r : Refusal). cells_drawing k ink (Err r)) (p ∙ sym q)
+
+  found_either : (p q r s : Result ℤ Refusal) → Missed p → Missed q → Missed r → Missed s
+      → cells_drawing k ink (line_in_cells p q r s) ≡ cells_drawing k ink (line_in_cells r s p q)
+  found_either (Ok a) (Ok b) (Ok c) (Ok d) l m n o = line_drawing_either k ink (cell a b) (cell c d)
+  found_either (Ok a) (Ok b) (Ok c) (Err h) l m n o = refl
+  found_either (Ok a) (Ok b) (Err g) s l m n o = refl
+  found_either (Ok a) (Err f) (Ok c) (Ok d) l m n o = refl
+  found_either (Ok a) (Err f) (Ok c) (Err h) l m n o = refused_alike f h m o
+  found_either (Ok a) (Err f) (Err g) s l m n o = refused_alike f g m n
+  found_either (Err e) q (Ok c) (Ok d) l m n o = refl
+  found_either (Err e) q (Ok c) (Err h) l m n o = refused_alike e h l o
+  found_either (Err e) q (Err g) s l m n o = refused_alike e g l n
 
   pub metres_drawing_either : (s : Survey) (x0 y0 x1 y1 : Float) → metres_drawing k ink s (metres.Line x0 y0 x1 y1) ≡ metres_drawing k ink s (metres.Line x1 y1 x0 y0)
   unfolding in_cells
   metres_drawing_either s x0 y0 x1 y1 = by (sound s)
     where
       by : (t : Bool)
-          → cells_drawing k ink (cond t (figure_in s (metres.Line x0 y0 x1 y1)) (cells.Refused refusal.Survey))
-          ≡ cells_drawing k ink (cond t (figure_in s (metres.Line x1 y1 x0 y0)) (cells.Refused refusal.Survey))
-      by true = found_either (eastward s x0) (northward s y0) (eastward s x1) (northward s y1)
+          → cells_drawing k ink (cond t (figure_in s (metres.Line x0 y0 x1 y1)) (Err refusal.Survey))
+          ≡ cells_drawing k ink (cond t (figure_in s (metres.Line x1 y1 x0 y0)) (Err refusal.Survey))
+      by true = found_either (eastward s x0) (northward s y0) (eastward s x1) (northward s y1) (missed _) (missed _) (missed _) (missed _)
       by false = refl
 
 -- A figure named from its other end has the same cells.

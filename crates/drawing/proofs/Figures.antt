@@ -1,6 +1,6 @@
 -- Drawing a figure of any kind.
 use Prim.Native.Nat.{ℕ}
-use mathlib.Core.Path.{◌≡◌, refl, sym, ◌∙◌}
+use mathlib.Core.Path.{◌≡◌, refl, sym, ap, ◌∙◌}
 use mathlib.Core.List.{List, []}
 use mathlib.Core.Bool.{Bool, true, false, ◌&&◌}
 use lib.IntN.{ℤ}
@@ -13,7 +13,7 @@ use Rattle.sheet.specs.Drawing.{if_sheet, telling, Draws}
 use Rattle.sheet.specs.Inner.{fits}
 use Rattle.sheet.specs.declared.Shape.{Shape}
 use Rattle.sheet.specs.declared.Figure.{Figure}
-use Rattle.sheet.specs.declared.Refusal.TheVariants.{Coordinate}
+use Rattle.sheet.specs.declared.refusal.Refusal.TheVariants.{Coordinate}
 use Rattle.sheet.specs.declared.Figure.TheVariants.{Line, Circle, Ellipse, Curve, Cubic}
 use Rattle.sheet.proofs.Boxes.{box_only}
 use Rattle.sheet.proofs.Draws.{drawn, box_told}
@@ -66,6 +66,11 @@ module _ (k : Shape) (ink : ℕ) where
   figure_refused (Ellipse c a b) n e = simp (if_sheet_lem k n e)
   figure_refused (Curve p0 p1 p2 s) n e = simp (if_sheet_lem k n e, three_tests (within_limits p0) (within_limits p1) (within_limits p2))
   figure_refused (Cubic p0 p1 p2 p3 s) n e = simp (if_sheet_lem k n e, four_tests (within_limits p0) (within_limits p1) (within_limits p2) (within_limits p3))
+
+  -- so a reply that tells its drawing is no refusal
+  pub figure_told : (f : Figure) (s t : List ℕ) (r : Answer) → fits k (length s) ≡ true → Sound f
+      → Draws (figure_drawing k ink f) s r t → is_done r ≡ true
+  figure_told f s t r e l h = ap is_done h.tells ∙ figure_done f (length s) e l
 
   pub figure_painted : (f : Figure) (s t : List ℕ) (r : Answer) → fits k (length s) ≡ true → Sound f
       → Draws (figure_drawing k ink f) s r t → t ≡ paint k ink (on_figure f) s

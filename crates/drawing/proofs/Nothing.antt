@@ -7,6 +7,7 @@ use native.Mathlib.Omega.{arith}
 use lib.ListN.{get_or}
 use lib.IntN.{ℤ, pos, nat_abs}
 use lib.Ieee.{Float, binary64, of_int, sub, div, le, lt}
+use Rattle.std.specs.Prelude.{Ok}
 use Rattle.laws.specs.Below.{any}
 use Rattle.sheet.specs.Sheet.{on_sheet, cell_at, held, by_place, paint, coordinate, within_limits, is_cell, cell_of, semi_axis}
 use Rattle.sheet.specs.Reply.{Answer}
@@ -24,11 +25,9 @@ use Rattle.curve.specs.Rule.{blend, coordinate_at, point_at, on_curve}
 use Rattle.curve.specs.Draw.{all_within_limits, curve_answer}
 use Rattle.survey.specs.Cell.{is_cell_of, found_cell}
 use Rattle.survey.specs.Metres.{sound, are_semi_axes, in_cells}
-use Rattle.survey.specs.declared.Found.TheVariants.{At}
 use Rattle.survey.specs.declared.Survey.{Survey}
 use Rattle.survey.specs.declared.Metres.{Metres}
 use Rattle.survey.specs.declared.Metres.TheVariants as metres
-use Rattle.survey.specs.declared.InCells.TheVariants.{Figure as Is}
 use Rattle.survey.proofs.Cells.{cell_is}
 use Rattle.record.specs.Layout.{signed, line_row, table}
 use Rattle.record.specs.Reading.{values_from, limited_from, row_found, kind_found, found_at, read_at}
@@ -95,36 +94,36 @@ unfolding sound of_int lt
 sound_home = refl
 
 -- 0.0 and 1.0, as positions and as lengths
-pub zero_at : found_cell (div binary64 (sub binary64 (whole 0) (whole 0)) (whole 1)) ≡ At (pos 0)
+pub zero_at : found_cell (div binary64 (sub binary64 (whole 0) (whole 0)) (whole 1)) ≡ Ok (pos 0)
 unfolding coordinate is_cell_of sub div of_int le lt
 zero_at = cell_is _ (pos 0) tt tt
 
-one_at : found_cell (div binary64 (sub binary64 (whole 1) (whole 0)) (whole 1)) ≡ At (pos 1)
+one_at : found_cell (div binary64 (sub binary64 (whole 1) (whole 0)) (whole 1)) ≡ Ok (pos 1)
 unfolding coordinate is_cell_of sub div of_int le lt
 one_at = cell_is _ (pos 1) tt tt
 
-pub zero_long : found_cell (div binary64 (whole 0) (whole 1)) ≡ At (pos 0)
+pub zero_long : found_cell (div binary64 (whole 0) (whole 1)) ≡ Ok (pos 0)
 unfolding coordinate is_cell_of div of_int le lt
 zero_long = cell_is _ (pos 0) tt tt
 
-one_long : found_cell (div binary64 (whole 1) (whole 1)) ≡ At (pos 1)
+one_long : found_cell (div binary64 (whole 1) (whole 1)) ≡ Ok (pos 1)
 unfolding coordinate is_cell_of div of_int le lt
 one_long = cell_is _ (pos 1) tt tt
 
-pub line_cells : in_cells home (metres.Line (whole 0) (whole 0) (whole 0) (whole 0)) ≡ Is (Line (cell_of 0 0) (cell_of 0 0))
+pub line_cells : in_cells home (metres.Line (whole 0) (whole 0) (whole 0) (whole 0)) ≡ Ok (Line (cell_of 0 0) (cell_of 0 0))
 unfolding in_cells
 line_cells = simp (sound_home, zero_at)
 
-pub circle_cells : in_cells home (metres.Circle (whole 0) (whole 0) (whole 0)) ≡ Is (Ellipse (cell_of 0 0) 0 0)
+pub circle_cells : in_cells home (metres.Circle (whole 0) (whole 0) (whole 0)) ≡ Ok (Ellipse (cell_of 0 0) 0 0)
 unfolding in_cells are_semi_axes semi_axis
 circle_cells = simp (sound_home, zero_at, zero_long)
 
-pub ellipse_cells : in_cells home (metres.Ellipse (whole 1) (whole 0) (whole 1) (whole 1)) ≡ Is (Ellipse (cell_of 1 0) 1 1)
+pub ellipse_cells : in_cells home (metres.Ellipse (whole 1) (whole 0) (whole 1) (whole 1)) ≡ Ok (Ellipse (cell_of 1 0) 1 1)
 unfolding in_cells are_semi_axes semi_axis
 ellipse_cells = simp (sound_home, one_at, zero_at, one_long)
 
 -- where the figure in cells is known, the drawing is that of the figure in cells
-by_cells : (f : Metres) (g : Figure) → in_cells home f ≡ Is g → DrawsNothing g → (a : Answer) → Draws (metres_drawing small 1 home f) lent a lent → ⊥
+by_cells : (f : Metres) (g : Figure) → in_cells home f ≡ Ok g → DrawsNothing g → (a : Answer) → Draws (metres_drawing small 1 home f) lent a lent → ⊥
 by_cells f g e n a h = n a (draws_as _ lent _ a lent (ap (cells_drawing small 1) e) h)
 
 pub line_metres_draws : (a : Answer) → Draws (metres_drawing small 1 home (metres.Line (whole 0) (whole 0) (whole 0) (whole 0))) lent a lent → ⊥

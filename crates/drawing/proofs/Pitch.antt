@@ -4,6 +4,7 @@ use mathlib.Core.Path.{refl, ap}
 use mathlib.Core.List.{List, [], ◌∷◌}
 use mathlib.Core.Bool.{◌&&◌}
 use lib.IntN.{pos}
+use Rattle.std.specs.Prelude.{Result, Ok, Err}
 use Rattle.sheet.specs.Sheet.{within_limits}
 use Rattle.sheet.specs.Reply.{done, refuse, unless}
 use Rattle.sheet.specs.Drawing.{only}
@@ -11,7 +12,8 @@ use Rattle.sheet.specs.Pitch.{with_pitch, AnyPitch}
 use Rattle.sheet.specs.declared.Shape.{Shape}
 use Rattle.sheet.specs.declared.Figure.{Figure}
 use Rattle.sheet.specs.declared.Figure.TheVariants.{Line, Circle, Ellipse, Curve, Cubic}
-use Rattle.sheet.specs.declared.Refusal.TheVariants.{Coordinate}
+use Rattle.sheet.specs.declared.refusal.Refusal.{Refusal}
+use Rattle.sheet.specs.declared.refusal.Refusal.TheVariants.{Coordinate}
 use Rattle.sheet.proofs.Count.{cells_pitch}
 use Rattle.sheet.proofs.Limits.{fits_disjoint}
 use Rattle.sheet.proofs.Pitch.{any_pitch, on_sheets, any_sheet}
@@ -23,8 +25,6 @@ use Rattle.record.specs.File.{file_answer}
 use Rattle.survey.specs.Metres.{in_cells}
 use Rattle.survey.specs.declared.Survey.{Survey}
 use Rattle.survey.specs.declared.Metres.{Metres}
-use Rattle.survey.specs.declared.InCells.{InCells}
-use Rattle.survey.specs.declared.InCells.TheVariants.{Figure as Is, Refused}
 use Rattle.drawing.specs.Figure.{figure_drawing}
 use Rattle.drawing.specs.File.{figures_in, file_form, draw_file_answer, file_drawing}
 use Rattle.drawing.specs.Metres.{cells_drawing, metres_drawing}
@@ -43,9 +43,9 @@ figure_any_pitch ink (Curve p0 p1 p2 s) = any_sheet _ _
 figure_any_pitch ink (Cubic p0 p1 p2 p3 s) = any_sheet _ _
 
 -- a figure in metres
-cells_any_pitch : (ink : ℕ) (i : InCells) → AnyPitch (λ (k : Shape). cells_drawing k ink i)
-cells_any_pitch ink (Is f) = figure_any_pitch ink f
-cells_any_pitch ink (Refused r) = any_sheet (refuse r) []
+cells_any_pitch : (ink : ℕ) (i : Result Figure Refusal) → AnyPitch (λ (k : Shape). cells_drawing k ink i)
+cells_any_pitch ink (Ok f) = figure_any_pitch ink f
+cells_any_pitch ink (Err r) = any_sheet (refuse r) []
 
 pub metres_any_pitch : (ink : ℕ) (s : Survey) (f : Metres) → AnyPitch (λ (k : Shape). metres_drawing k ink s f)
 metres_any_pitch ink s f = cells_any_pitch ink (in_cells s f)

@@ -2,17 +2,20 @@
 use Prim.Native.Nat.{ℕ, ◌≤◌}
 use mathlib.Core.Path.{◌≡◌, refl, sym, subst, ap, ◌∙◌}
 use mathlib.Core.List.{List, [], ◌∷◌, map}
-use mathlib.Core.Bool.{Bool, true, false, not, true≢false}
+use mathlib.Core.Bool.{true, true≢false}
 use native.Mathlib.Omega.{arith}
 use lib.ListN.{length}
-use Rattle.laws.proofs.Tests.{no}
+use Rattle.std.specs.Prelude.{Result, Ok, Err, Some}
+use Rattle.std.specs.Result.{IsErrAnd, result_unwrap_or}
 use Rattle.sheet.specs.Sheet.{paint}
 use Rattle.sheet.specs.Repaint.{nothing, join, box_of}
-use Rattle.sheet.specs.Reply.{Answer, done, with_box, is_done}
+use Rattle.sheet.specs.Reply.{Answer, done, refuse, refuse_at, told, told_file, test_answer, count_answer, drawn_answer, is_done}
 use Rattle.sheet.specs.Drawing.{Inked, paint_all, box_all, if_sheet, Draws}
 use Rattle.sheet.specs.Inner.{fits}
 use Rattle.sheet.specs.declared.Shape.{Shape}
-use Rattle.sheet.specs.declared.Refusal.{Refusal}
+use Rattle.sheet.specs.declared.Drawn.{Drawn}
+use Rattle.sheet.specs.declared.refusal.Refusal.{Refusal}
+use Rattle.sheet.specs.declared.refusal.FileRefusal.{FileRefusal}
 use Rattle.sheet.specs.declared.repaint.Rectangle.{Rectangle}
 use Rattle.sheet.proofs.Boxes.{Low, join_nothing, join_assoc, join_low, nothing_low, nothing_join, box_low}
 use Rattle.sheet.proofs.Draws.{kept, draws}
@@ -28,7 +31,7 @@ use Rattle.record.proofs.Onward.{NoRecord, never, from_record, from_end, from_re
 use Rattle.record.proofs.Stands.{stands}
 use Rattle.drawing.specs.Figure.{on_figure, figure_drawing}
 use Rattle.drawing.specs.File.{records_of, inked, figures_in, file_form, draw_file_answer, file_drawing}
-use Rattle.drawing.proofs.Figures.{figure_painted, figure_boxed}
+use Rattle.drawing.proofs.Figures.{figure_told, figure_painted, figure_boxed}
 
 -- no record is refused
 abbrev Accepted : Contents → Type 0
@@ -111,6 +114,13 @@ module _ (k : Shape) (s sheet₀ sheet : List ℕ) (q : Rectangle) (at : ℕ) (h
         inside = o.inside;
       }
 
+  -- no record is refused
+  pub not_drawn : (r : Record) (t : List ℕ) (e : Refusal) → read.Record r ≡ read_at s at → fits k (length sheet₀) ≡ true
+      → Draws (figure_drawing k r.ink r.figure) sheet (refuse e) t → ⊥
+  not_drawn r t e f g d =
+      let fitting : fits k (length sheet) ≡ true = ap (fits k) h.kept ∙ g in
+      true≢false (sym (figure_told k r.ink r.figure sheet t (refuse e) fitting (stands s at r f).sound d) ∙ number_not_0 e)
+
   -- where the reading ends all is drawn
   pub closes : (e : Read) → e ≡ read_at s at → NoRecord e → (sheet ≡ paint_all k (figures_in s) sheet₀) × (q ≡ box_all k (figures_in s))
   unfolding box_all
@@ -130,23 +140,33 @@ file_valued : (s : List ℕ) → file_form (file_answer s) ≡ file_answer s
 unfolding file_answer
 file_valued s = contents_valued (read_all s)
 
+-- a reply into which `?` passes a refusal
+passed : (reply : Result Drawn FileRefusal) (f : FileRefusal) → IsErrAnd reply (λ g. g ≡ f) → told_file drawn_answer reply ≡ refuse_at f.refusal f.offset
+passed (Ok d) f h = absurd h
+passed (Err g) f h = ap (λ (f : FileRefusal). refuse_at f.refusal f.offset) h
+
+refused_at : (k : Shape) (s sheet : List ℕ) (reply : Result Drawn FileRefusal) (f : FileRefusal) → IsErrAnd reply (λ g. g ≡ f)
+    → draw_file_answer k s (length sheet) ≡ refuse_at f.refusal f.offset → Draws (file_drawing k s) sheet (told_file drawn_answer reply) sheet
+refused_at k s sheet reply f h e = kept (file_drawing k s) sheet _ _ (passed reply f h) (number_not_0 f.refusal) e
+
 -- the drawing of a file that is refused for its sheet, by what the test told
-pub no_sheet_file : (k : Shape) (s sheet : List ℕ) (a b c : Answer) (r : Bool) → a ≡ if_sheet k (length sheet) (done []) → r ≡ is_done a → not r ≡ true
-    → b ≡ file_form a → c ≡ with_box b nothing → Draws (file_drawing k s) sheet c sheet
+pub no_sheet_file : (k : Shape) (s sheet : List ℕ) (r : Refusal) (reply : Result Drawn FileRefusal) → told test_answer (Err r) ≡ if_sheet k (length sheet) (done [])
+    → IsErrAnd reply (λ g. g ≡ record { refusal = r; offset = 0 }) → Draws (file_drawing k s) sheet (told_file drawn_answer reply) sheet
 unfolding draw_file_answer
-no_sheet_file k s sheet a b c r tested asked e told undrawn =
-    kept (file_drawing k s) sheet b c undrawn (ap is_done told ∙ no r (is_done a) asked e)
-    (ap file_form (no_sheet k (length sheet) a r tested asked e (file_answer s)) ∙ sym told)
+no_sheet_file k s sheet r reply e h = refused_at k s sheet reply _ h (ap file_form (no_sheet k (length sheet) r e (file_answer s)))
 
 -- the drawing of a file on a sheet that fits, by the reply of reading it
-module _ (k : Shape) (s sheet : List ℕ) (fit : fits k (length sheet) ≡ true) (a : Answer) (e : a ≡ file_answer s) where
-  answered : draw_file_answer k s (length sheet) ≡ a
+module _ (k : Shape) (s sheet : List ℕ) (fit : fits k (length sheet) ≡ true) where
+  answered : draw_file_answer k s (length sheet) ≡ file_answer s
   unfolding draw_file_answer
-  answered = ap file_form (if_sheet_lem k (length sheet) fit (file_answer s)) ∙ file_valued s ∙ sym e
+  answered = ap file_form (if_sheet_lem k (length sheet) fit (file_answer s)) ∙ file_valued s
 
-  pub file_refused : is_done (file_answer s) ≡ false → (b : Answer) → b ≡ with_box a nothing → Draws (file_drawing k s) sheet b sheet
-  file_refused f b g = kept (file_drawing k s) sheet a b g (ap is_done e ∙ f) answered
+  pub file_refused : (f : FileRefusal) (reply : Result Drawn FileRefusal) → told_file count_answer (Err f) ≡ file_answer s → IsErrAnd reply (λ g. g ≡ f)
+      → Draws (file_drawing k s) sheet (told_file drawn_answer reply) sheet
+  file_refused f reply e h = refused_at k s sheet reply f h (answered ∙ sym e)
 
-  pub file_drawn : is_done (file_answer s) ≡ true → (t : List ℕ) (r : Rectangle) → t ≡ paint_all k (figures_in s) sheet → r ≡ box_all k (figures_in s)
-      → Draws (file_drawing k s) sheet (with_box a r) t
-  file_drawn f t r p q = draws (file_drawing k s) sheet a r t (ap is_done e ∙ f) answered p q
+  pub file_drawn : (n : ℕ) (t : List ℕ) (r : Rectangle) → told_file count_answer (Ok n) ≡ file_answer s → t ≡ paint_all k (figures_in s) sheet
+      → ◌≡◌ {A = Result Rectangle Refusal} (Ok r) (Ok (box_all k (figures_in s)))
+      → Draws (file_drawing k s) sheet (told_file drawn_answer (Ok (record { count = Some n; rectangle = r }))) t
+  file_drawn n t r e p q =
+      draws (file_drawing k s) sheet (count_answer n) r t refl (answered ∙ sym e) p (ap (λ (b : Result Rectangle Refusal). result_unwrap_or b nothing) q)

@@ -10,33 +10,33 @@ use lib.ListN.{length}
 use lib.IntN.{pos, nat_abs}
 use lib.Ieee.{Float, nan, of_int, sub, div, le, lt}
 use Rattle.sheet.specs.Sheet.{on_sheet, coordinate, within_limits, cell_of, semi_axis, axes, split}
-use Rattle.sheet.specs.Reply.{Answer, number, done, told, with_box, is_done, value_of}
+use Rattle.std.specs.Prelude.{Result, Ok, Err, None}
+use Rattle.sheet.specs.Reply.{Answer, number, done, told, told_file, test_answer, count_answer, drawn_answer, with_box, is_done, value_of}
 use Rattle.sheet.specs.Repaint.{nothing, alone, join}
 use Rattle.sheet.specs.Drawing.{if_sheet, mark_answer}
 use Rattle.sheet.specs.Inner.{moved, lowered, moved_cell, lowered_cell, joined_at}
 use Rattle.sheet.specs.declared.Cell.{Cell}
 use Rattle.sheet.specs.declared.Spot.{Spot}
-use Rattle.sheet.specs.declared.Reply.{Reply}
-use Rattle.sheet.specs.declared.Reply.TheVariants.{Done, Counted, Refused}
+use Rattle.sheet.specs.declared.Drawn.{Drawn}
 use Rattle.sheet.specs.declared.Figure.{Figure}
 use Rattle.sheet.specs.declared.Figure.TheVariants.{Line}
-use Rattle.sheet.specs.declared.Refusal.TheVariants.{Size, Coordinate}
-use Rattle.sheet.specs.declared.Refusal.TheVariants as refusal
+use Rattle.sheet.specs.declared.refusal.Refusal.{Refusal}
+use Rattle.sheet.specs.declared.refusal.Refusal.TheVariants.{Size, Coordinate}
+use Rattle.sheet.specs.declared.refusal.Refusal.TheVariants as refusal
 use Rattle.sheet.specs.declared.repaint.Rectangle.{Rectangle}
+use Rattle.sheet.specs.declared.refusal.FileRefusal.{FileRefusal}
 use Rattle.sheet.proofs.Empty.{Both, Differ}
+use Rattle.sheet.proofs.Unique.{told_one, told_file_one, test_one, count_one, drawn_one}
 use Rattle.line.specs.Draw.{line_answer, short_on}
 use Rattle.line.specs.Listing.{list_answer}
 use Rattle.line.specs.Pen.{fresh, moved_on, begin_answer, has_cell, next_answer, ask_answer}
 use Rattle.ring.specs.Draw.{ellipse_answer, ellipse_drawing}
 use Rattle.curve.specs.Draw.{all_within_limits, curve_answer}
-use Rattle.survey.specs.Cell.{is_cell_of, found_cell, told_found}
-use Rattle.survey.specs.Metres.{found_coordinate, found_length, sound, in_cells, told_in_cells}
-use Rattle.survey.specs.declared.Found.TheVariants.{At, NoCell}
+use Rattle.survey.specs.Cell.{is_cell_of, found_cell, coordinate_answer}
+use Rattle.survey.specs.Metres.{found_coordinate, found_length, sound, in_cells, figure_answer}
 use Rattle.survey.specs.declared.Survey.{Survey}
 use Rattle.survey.specs.declared.Metres.{Metres}
 use Rattle.survey.specs.declared.Metres.TheVariants as metres
-use Rattle.survey.specs.declared.InCells.{InCells}
-use Rattle.survey.specs.declared.InCells.TheVariants as cells
 use Rattle.survey.proofs.Cells.{cell_is, nan_none}
 use Rattle.record.specs.Reading.{found_at, read_at, read_answer}
 use Rattle.record.specs.File.{read_in, read_from, read_all, file_answer}
@@ -56,13 +56,13 @@ far = cell_of 16384 0
 pub number_differs : Differ number Size Coordinate
 number_differs e = let z : ◌≡◌ {A = ℕ} 1 2 = e in omega arith
 
-pub reply_number_differs : Differ (λ (r : Reply). (told r).number) Done (Refused Coordinate)
+pub reply_number_differs : Differ (λ (r : Result (Unit {0}) Refusal). (told test_answer r).number) (Ok tt) (Err Coordinate)
 reply_number_differs e = let z : ◌≡◌ {A = ℕ} 0 2 = e in omega arith
 
-pub value_differs : Differ (λ (r : Reply). value_of (told r)) (Counted 0) (Counted 1)
+pub value_differs : Differ (λ (r : Result ℕ Refusal). value_of (told count_answer r)) (Ok 0) (Ok 1)
 value_differs e = let z : ◌≡◌ {A = ℕ} 0 1 = e in omega arith
 
-pub is_done_differs : Differ (λ (r : Reply). is_done (told r)) Done (Refused Coordinate)
+pub is_done_differs : Differ (λ (r : Result (Unit {0}) Refusal). is_done (told test_answer r)) (Ok tt) (Err Coordinate)
 is_done_differs e = true≢false e
 
 pub coordinate_differs : Differ coordinate (pos 0) (pos 16384)
@@ -92,7 +92,7 @@ pub lower_differs : Differ lowered 65537 0
 unfolding lowered coordinate
 lower_differs e = let z : ◌≡◌ {A = ℕ} 1 0 = ap nat_abs e in omega arith
 
-pub undrawn_differs : Differ (λ (r : Reply). (with_box (told r) nothing).number) Done (Refused Coordinate)
+pub undrawn_differs : Differ (λ (r : Result Drawn Refusal). (with_box (told drawn_answer r) nothing).number) (Ok (record { count = None; rectangle = nothing })) (Err Coordinate)
 undrawn_differs e = let z : ◌≡◌ {A = ℕ} 0 2 = e in omega arith
 
 pub join_differs : Differ (join nothing) nothing (alone 0 0)
@@ -176,35 +176,35 @@ both_told : {I R : Type 0} (told : R → Answer) (find : I → R) (i j : I) (r s
 both_told {I} {R} told find i j r s at none zero above =
     record { done = ap (λ (q : R). is_done (told q)) at ∙ zero; refused = ap (λ (q : R). is_done (told q)) none ∙ above }
 
-pub find_cell_both : Both (λ (q : Float). told_found (found_cell q)) (whole 0) nan
+pub find_cell_both : Both (λ (q : Float). told coordinate_answer (found_cell q)) (whole 0) nan
 unfolding coordinate is_cell_of of_int le lt
-find_cell_both = both_told told_found found_cell (whole 0) nan (At (pos 0)) NoCell (cell_is (whole 0) (pos 0) tt tt) nan_none refl refl
+find_cell_both = both_told (told coordinate_answer) found_cell (whole 0) nan (Ok (pos 0)) (Err refusal.NoCell) (cell_is (whole 0) (pos 0) tt tt) nan_none refl refl
 
-no_coordinate : found_coordinate (whole 0) (whole 0) (whole 0) ≡ NoCell
+no_coordinate : found_coordinate (whole 0) (whole 0) (whole 0) ≡ Err refusal.NoCell
 unfolding sub div of_int
 no_coordinate = nan_none
 
-pub find_coordinate_both : Both (λ (size : Float). told_found (found_coordinate (whole 0) (whole 0) size)) (whole 1) (whole 0)
-find_coordinate_both = both_told told_found (found_coordinate (whole 0) (whole 0)) (whole 1) (whole 0) (At (pos 0)) NoCell zero_at no_coordinate refl refl
+pub find_coordinate_both : Both (λ (size : Float). told coordinate_answer (found_coordinate (whole 0) (whole 0) size)) (whole 1) (whole 0)
+find_coordinate_both = both_told (told coordinate_answer) (found_coordinate (whole 0) (whole 0)) (whole 1) (whole 0) (Ok (pos 0)) (Err refusal.NoCell) zero_at no_coordinate refl refl
 
-no_length : found_length (whole 0) (whole 0) ≡ NoCell
+no_length : found_length (whole 0) (whole 0) ≡ Err refusal.NoCell
 unfolding div of_int
 no_length = nan_none
 
-pub find_length_both : Both (λ (size : Float). told_found (found_length (whole 0) size)) (whole 1) (whole 0)
-find_length_both = both_told told_found (found_length (whole 0)) (whole 1) (whole 0) (At (pos 0)) NoCell zero_long no_length refl refl
+pub find_length_both : Both (λ (size : Float). told coordinate_answer (found_length (whole 0) size)) (whole 1) (whole 0)
+find_length_both = both_told (told coordinate_answer) (found_length (whole 0)) (whole 1) (whole 0) (Ok (pos 0)) (Err refusal.NoCell) zero_long no_length refl refl
 
-flat_refused : (f : Metres) → in_cells flat f ≡ cells.Refused refusal.Survey
+flat_refused : (f : Metres) → in_cells flat f ≡ Err refusal.Survey
 unfolding in_cells sound of_int lt
 flat_refused f = refl
 
 -- of a figure in metres, by any telling of what it is in cells
-in_cells_both : (told : InCells → Answer) (f : Metres) (c : InCells) → in_cells home f ≡ c
-    → is_done (told c) ≡ true → is_done (told (cells.Refused refusal.Survey)) ≡ false → Both (λ (s : Survey). told (in_cells s f)) home flat
-in_cells_both told f c e = both_told told (λ (s : Survey). in_cells s f) home flat c (cells.Refused refusal.Survey) e (flat_refused f)
+in_cells_both : (told : Result Figure Refusal → Answer) (f : Metres) (c : Result Figure Refusal) → in_cells home f ≡ c
+    → is_done (told c) ≡ true → is_done (told (Err refusal.Survey)) ≡ false → Both (λ (s : Survey). told (in_cells s f)) home flat
+in_cells_both told f c e = both_told told (λ (s : Survey). in_cells s f) home flat c (Err refusal.Survey) e (flat_refused f)
 
-pub to_cells_both : Both (λ (s : Survey). told_in_cells (in_cells s (metres.Circle (whole 0) (whole 0) (whole 0)))) home flat
-to_cells_both = in_cells_both told_in_cells _ _ circle_cells refl refl
+pub to_cells_both : Both (λ (s : Survey). told figure_answer (in_cells s (metres.Circle (whole 0) (whole 0) (whole 0)))) home flat
+to_cells_both = in_cells_both (told figure_answer) _ _ circle_cells refl refl
 
 -- of record: a lone byte, read at its end and at its beginning; the empty file and a lone byte
 abbrev lone : List ℕ
@@ -223,14 +223,14 @@ pub figure_both : Both (λ (f : Figure). (figure_drawing small 1 f).answer 1) (L
 unfolding line_answer if_sheet within_limits coordinate
 figure_both = record { done = refl; refused = refl }
 
-pub of_file_differs : Differ (λ (r : Reply). (file_form (told r)).number) Done (Refused Coordinate)
+pub of_file_differs : Differ (λ (r : Result (Unit {0}) Refusal). (file_form (told test_answer r)).number) (Ok tt) (Err Coordinate)
 of_file_differs e = let z : ◌≡◌ {A = ℕ} 0 2 = e in omega arith
 
 pub file_both : Both (λ (file : List ℕ). draw_file_answer small file 1) [] lone
 unfolding draw_file_answer file_answer read_all read_from read_in read_at found_at if_sheet
 file_both = record { done = refl; refused = refl }
 
-abbrev answer_of : InCells → Answer
+abbrev answer_of : Result Figure Refusal → Answer
 answer_of c = (cells_drawing small 1 c).answer 1
 
 abbrev answer_in : Metres → Survey → Answer
@@ -243,3 +243,19 @@ line_metres_both = in_cells_both answer_of _ _ line_cells refl refl
 pub ellipse_metres_both : Both (answer_in (metres.Ellipse (whole 1) (whole 0) (whole 1) (whole 1))) home flat
 unfolding ellipse_answer semi_axis if_sheet within_limits coordinate
 ellipse_metres_both = in_cells_both answer_of _ _ ellipse_cells refl refl
+
+-- Two replies told alike are equal: of a test, of a number and of a drawing, and of a file that is only read and of one that is drawn.
+pub test_reply_one : (r q : Result (Unit {0}) Refusal) → told test_answer r ≡ told test_answer q → r ≡ q
+test_reply_one = told_one test_answer (λ a. refl) test_one
+
+pub count_reply_one : (r q : Result ℕ Refusal) → told count_answer r ≡ told count_answer q → r ≡ q
+count_reply_one = told_one count_answer (λ n. refl) count_one
+
+pub drawn_reply_one : (r q : Result Drawn Refusal) → told drawn_answer r ≡ told drawn_answer q → r ≡ q
+drawn_reply_one = told_one drawn_answer (λ d. refl) drawn_one
+
+pub count_file_one : (r q : Result ℕ FileRefusal) → told_file count_answer r ≡ told_file count_answer q → r ≡ q
+count_file_one = told_file_one count_answer (λ n. refl) count_one
+
+pub drawn_file_one : (r q : Result Drawn FileRefusal) → told_file drawn_answer r ≡ told_file drawn_answer q → r ≡ q
+drawn_file_one = told_file_one drawn_answer (λ d. refl) drawn_one

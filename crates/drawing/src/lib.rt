@@ -6,5 +6,5 @@ mod file;
 mod metres;
 
 pub use figure::draw_figure;
-pub use file::{draw_file, of_file};
+pub use file::draw_file;
 pub use metres::draw_metres;

@@ -1,14 +1,14 @@
 -- `drawing::file::draw_records` meets its contract.
-use Prim.Native.Nat.{◌-◌}
-use mathlib.Core.Path.{◌≡◌, sym, ◌∙◌}
+use mathlib.Core.Path.{◌≡◌, sym, ap, ◌∙◌}
 use native.Mathlib.Omega.{arith}
+use borrow.Enum.Refused.{opened}
+use Rattle.std.specs.Prelude.{Ok}
 use Rattle.record.specs.Reading.{read_at}
 use Rattle.record.specs.declared.types.Read.TheVariants as read
 use Rattle.record.proofs.Stands.{stands}
-use Rattle.drawing.proofs.Records.{begins, turn, closes}
-use borrow.Enum.Refused.{opened}
+use Rattle.drawing.proofs.Records.{begins, turn, closes, not_drawn}
 use Rattle.drawing.proofs.file.draw_records.Goals as goal
-use Rattle.drawing.proofs.file.draw_records.Goals.{After-join-rectangle}
+use Rattle.drawing.proofs.file.draw_records.Goals.{After-from_residual, After-join-rectangle}
 
 pub loop-record-init : goal.loop-record-init
 loop-record-init c =
@@ -20,7 +20,7 @@ returns-in_default c =
     let a = c.args in
     let loop = c.loop-record in
     let all_clauses = closes a.shape a.file.now a.sheet.now loop.sheet loop.rectangle loop.at loop.invariant c.read.result c.read.ensures.value (opened c.in_default.in_default-own.keys2) in
-    record { sheet_after = all_clauses.0; value = all_clauses.1 }
+    record { sheet_after = all_clauses.0; value = ap Ok all_clauses.1 }
 
 -- the record that was read
 is_record : (c : After-join-rectangle)
@@ -37,4 +37,17 @@ loop-record-preserved c =
     let a = c.args in
     let loop = c.loop-record in
     turn a.shape a.file.now a.sheet.now loop.sheet loop.rectangle loop.at loop.invariant _ _ _ _ (is_record c) c.requires.sheet_value
-    c.draw_figure-drawn.ensures c.join-rectangle.ensures
+    c.in_ok-drawn.ensures c.join-rectangle.ensures
+
+-- none is refused
+refused : (c : After-from_residual) → ⊥
+refused c =
+    let a = c.args in
+    let loop = c.loop-record in
+    not_drawn a.shape a.file.now a.sheet.now loop.sheet loop.rectangle loop.at loop.invariant c.in-Record.record _ _ (sym c.in-Record.is ∙ c.read.ensures.value) c.requires.sheet_value c.in_err-drawn.ensures
+
+pub returns-in_err-drawn-clause-sheet_after : goal.returns-in_err-drawn-clause-sheet_after
+returns-in_err-drawn-clause-sheet_after c = absurd (refused c)
+
+pub returns-in_err-drawn-clause-value : goal.returns-in_err-drawn-clause-value
+returns-in_err-drawn-clause-value c = absurd (refused c)
