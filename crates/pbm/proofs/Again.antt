@@ -20,7 +20,7 @@ use Rattle.sheet.specs.Reply.{Answer, done, is_done, unless}
 use Rattle.sheet.specs.Drawing.{if_sheet, Paints}
 use Rattle.sheet.specs.Inner.{fits}
 use Rattle.sheet.specs.declared.Shape.{Shape}
-use Rattle.sheet.specs.declared.Refusal.TheVariants.{Header, Pixels}
+use Rattle.sheet.specs.declared.refusal.Refusal.TheVariants.{Header, Pixels}
 use Rattle.sheet.proofs.Cells.{on_sheet_lem}
 use Rattle.sheet.proofs.Draws.{drawn}
 use Rattle.sheet.proofs.Lent.{if_sheet_lem, done_sheet}
@@ -28,7 +28,7 @@ use Rattle.sheet.proofs.Limits.{fits_sheet}
 use Rattle.sheet.proofs.Paint.{paint_length, paint_cell}
 use Rattle.sheet.proofs.Pitch.{cell_below}
 use Rattle.pbm.specs.Picture.{header_bytes, row_byte_count, raster_byte_count, packed, bit_of, sheet_bit, raster_byte, picture_of}
-use Rattle.pbm.specs.Page.{blank, digit, Some, Begins, value_after, Headed}
+use Rattle.pbm.specs.Page.{digit, Some, Begins, value_after, Headed}
 use Rattle.pbm.specs.Header.{names, rows_of}
 use Rattle.pbm.specs.Reading.{bit_at, pixel, read_answer, everywhere, black, read_drawing}
 use Rattle.pbm.specs.Shown.{SameSize, cleared}

@@ -2,7 +2,7 @@
 use Prim.Native.Nat.{ℕ, zero, suc, ◌+◌, ◌*◌, ◌-◌, ◌/◌, ◌%◌, ◌≤◌, ◌<◌}
 use mathlib.Core.Path.{◌≡◌, refl, sym, ap, ◌∙◌}
 use mathlib.Core.List.{List, [], ◌∷◌, ◌++◌}
-use mathlib.Core.Bool.{Bool, true, false, cond, not, ◌&&◌, and-true}
+use mathlib.Core.Bool.{Bool, true, false, cond, ◌&&◌, and-true}
 use native.Mathlib.Omega.{arith}
 use native.Mathlib.Nat.{mod-lt}
 use borrow.Author.Tests.{le-leb, lt-leb}
@@ -13,16 +13,19 @@ use lib.Seq.{sets, get_or-drop}
 use Rattle.laws.specs.Below.{each}
 use Rattle.laws.specs.Text.{written_over}
 use Rattle.laws.proofs.Each.{length-each}
-use Rattle.laws.proofs.Tests.{no}
 use Rattle.laws.proofs.Written.{write_first, write_next, write_ends}
 use Rattle.sheet.specs.Sheet.{on_sheet, cell_at, held, paint}
-use Rattle.sheet.specs.Reply.{Answer, done, refuse, is_done, settled}
+use Rattle.sheet.specs.Reply.{Answer, done, refuse, told, test_answer, count_answer, is_done, settled}
 use Rattle.sheet.specs.Drawing.{paint_all, Paints, if_sheet}
 use Rattle.sheet.specs.Inner.{fits}
 use Rattle.sheet.specs.declared.Shape.{Shape}
-use Rattle.sheet.specs.declared.Refusal.TheVariants.{Buffer, Header, Pixels}
+use Rattle.sheet.specs.declared.refusal.Refusal.TheVariants.{Buffer, Header, Pixels}
 use Rattle.sheet.proofs.Draws.{keeps, paints}
-use Rattle.sheet.proofs.Lent.{if_sheet_lem, no_sheet}
+use Rattle.sheet.proofs.Lent.{if_sheet_lem, no_sheet, told_err}
+use Rattle.sheet.proofs.Unique.{number_not_0}
+use Rattle.std.specs.Prelude.{Result, Err, IsErrAnd, Some, None}
+use Rattle.std.proofs.lemmas.Option.{none-some}
+use Rattle.sheet.specs.declared.refusal.Refusal.{Refusal}
 use Rattle.sheet.proofs.Places.{by_as, by_then}
 use Rattle.pbm.specs.Picture.{header_bytes, row_byte_count, raster_byte_count, raster_byte, picture_of, write_answer, Writes}
 use Rattle.pbm.specs.Header.{names, rows_of}
@@ -42,9 +45,11 @@ module _ (k : Shape) (s lent : List ℕ) where
   writes_not a n e = record { tells = sym e; leaves = simp (e, n) }
 
   -- where the sheet is refused, so is the picture
-  pub writes_no_sheet : (a : Answer) (r : Bool) → a ≡ if_sheet k (length s) (done []) → r ≡ is_done a → not r ≡ true → Writes k s lent a lent
+  pub writes_no_sheet : (reply : Result ℕ Refusal) (r : Refusal) → told test_answer (Err r) ≡ if_sheet k (length s) (done [])
+      → IsErrAnd reply (λ q. q ≡ r) → Writes k s lent (told count_answer reply) lent
   unfolding write_answer
-  writes_no_sheet a r tested asked e = writes_not a (no r (is_done a) asked e) (no_sheet k (length s) a r tested asked e _)
+  writes_no_sheet reply r tested e =
+      rw (told_err count_answer reply r e) (writes_not (refuse r) (number_not_0 r) (no_sheet k (length s) r tested _))
 
   module _ (sheet : fits k (length s) ≡ true) where
     pub writes_short : length lent < length (picture_of k s) → Writes k s lent (refuse Buffer) lent
@@ -66,27 +71,29 @@ module _ (k : Shape) (s lent : List ℕ) where
         }
 
 -- where the rows are found, the file names a picture of this size, and where not, not
-module _ {p : List ℕ} {width height at : ℕ} (h : Finds p width height at) where
-  pub not_named : at ≡ 0 → names width height p ≡ false
-  not_named e = by (names width height p) refl
-    where
-      by : (t : Bool) → names width height p ≡ t → t ≡ false
-      by true f = let g = (h.found f).0 in absurd (omega arith)
-      by false f = refl
+pub not_named : {p : List ℕ} {width height : ℕ} → Finds p width height None → names width height p ≡ false
+not_named {p} {width} {height} h = by (names width height p) refl
+  where
+    by : (t : Bool) → names width height p ≡ t → t ≡ false
+    by true f = absurd (h.found f)
+    by false f = refl
 
-  pub is_named : (at ≡ 0 → ⊥) → names width height p ≡ true
-  is_named o = by (names width height p) refl
+module _ {p : List ℕ} {width height at : ℕ} (h : Finds p width height (Some at)) where
+  pub is_named : names width height p ≡ true
+  is_named = by (names width height p) refl
     where
       by : (t : Bool) → names width height p ≡ t → t ≡ true
       by true f = refl
-      by false f = absurd (o (h.not_found f))
+      by false f = absurd (none-some _ (sym (h.not_found f)))
 
-  pub rows_long : names width height p ≡ true → (at ≤ length p) × (length (rows_of p) ≡ length p - at)
-  rows_long e = let f = h.found e in (f.1, ap length f.2 ∙ length-drop at p)
+  pub rows_long : (at ≤ length p) × (length (rows_of p) ≡ length p - at)
+  rows_long = let f = h.found is_named in (f.0, ap length f.1 ∙ length-drop at p)
 
-pub reads_no_sheet : (k : Shape) (p s : List ℕ) (a : Answer) (r : Bool) → a ≡ if_sheet k (length s) (done []) → r ≡ is_done a → not r ≡ true → Paints (read_drawing k p) s a s
+pub reads_no_sheet : (k : Shape) (p s : List ℕ) (reply : Result (Unit {0}) Refusal) (r : Refusal) → told test_answer (Err r) ≡ if_sheet k (length s) (done [])
+    → IsErrAnd reply (λ q. q ≡ r) → Paints (read_drawing k p) s (told test_answer reply) s
 unfolding read_answer
-reads_no_sheet k p s a r tested asked e = keeps (read_drawing k p) s a (no r (is_done a) asked e) (no_sheet k (length s) a r tested asked e _)
+reads_no_sheet k p s reply r tested e =
+    rw (told_err test_answer reply r e) (keeps (read_drawing k p) s (refuse r) (number_not_0 r) (no_sheet k (length s) r tested _))
 
 module _ (k : Shape) (p s : List ℕ) (sheet : fits k (length s) ≡ true) where
   pub reads_other : names k.width k.height p ≡ false → Paints (read_drawing k p) s (refuse Header) s

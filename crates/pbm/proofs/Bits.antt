@@ -1,12 +1,18 @@
 -- Eight flags as a byte, and a byte as eight cells.
-use Prim.Native.Nat.{ℕ, suc, ◌+◌, ◌*◌, ◌/◌, ◌%◌, ◌≤◌, ◌<◌}
+use borrow.Rule.Slice.PartMut.{put_mid}
+use lib.Seq.{take_at}
+use lib.ListN.{take}
+use mathlib.Core.Path.{subst}
+use Rattle.laws.proofs.Each.{length-each, each_plus}
+use Rattle.laws.proofs.Written.{put_part}
+use Prim.Native.Nat.{ℕ, ◌+◌, ◌-◌, ◌*◌, ◌/◌, ◌%◌, ◌≤◌, ◌<◌}
 use mathlib.Core.Path.{◌≡◌, refl, sym, ap, ◌∙◌}
-use mathlib.Core.List.{List}
+use mathlib.Core.List.{List, [], ◌∷◌}
 use mathlib.Core.Bool.{Bool, true, false, not, true≢false}
 use native.Mathlib.Omega.{arith}
 use native.Mathlib.Decide.{ℕ_discrete}
-use borrow.Author.Tests.{eqb-true, leb-true}
-use lib.Dec.{T, eqb, leb}
+use borrow.Author.Tests.{eqb-true}
+use lib.Dec.{T, eqb}
 use lib.ListN.{length, get_or, set, length-set}
 use lib.Seq.{sets, get_or-set_same, get_or-set_other}
 use Rattle.laws.specs.Below.{any, each}
@@ -14,7 +20,7 @@ use Rattle.laws.proofs.Below.{any_at}
 use Rattle.laws.proofs.Tests.{is_true, from_true}
 use Rattle.pbm.specs.Picture.{packed}
 use Rattle.pbm.specs.Reading.{bit_at}
-use Rattle.pbm.specs.Inner.{Flags, four_of, packed_at, spread, Table, byte_of}
+use Rattle.pbm.specs.Inner.{Flags, four_of, packed_at, spread, byte_of}
 
 -- what a test shows of all numbers below n that it is computed at
 pub holds_below : (n : ℕ) (test : ℕ → Bool) → any n (λ (i : ℕ). not (test i)) ≡ false → (i : ℕ) → i < n → test i ≡ true
@@ -79,13 +85,6 @@ pub halved_is : (b : ℕ) → b < 256 → spread 8 (b / 2) / 256 + b % 2 * 72057
 unfolding halved
 halved_is b l = eqb-true _ _ (holds_below 256 halved halved_all b l)
 
-small_all : any 256 (λ (b : ℕ). not (leb (spread 8 b) 72340172838076673)) ≡ false
-unfolding spread any
-small_all = refl
-
-pub spread_small : (b : ℕ) → b < 256 → spread 8 b ≤ 72340172838076673
-spread_small b l = leb-true _ _ (holds_below 256 (λ (b : ℕ). leb (spread 8 b) 72340172838076673) small_all b l)
-
 spelt : ℕ → ℕ → Bool
 spelt i b = eqb (byte_of (spread 8 b) i) (bit_at b i)
 
@@ -126,21 +125,20 @@ making_next {t} {n} {v} h l m e = record { long = length-set t n v ∙ h.long; m
         ∙ ap (spread 8) (sym f)
     by b k (no f) = get_or-set_other t n b v 0 f ∙ h.made b (omega arith)
 
-pub making_done : {t : List ℕ} {n : ℕ} → Making t n → 256 ≤ n → Table t
-making_done h l = record { long = h.long; is = λ b m. h.made b (omega arith) }
-
--- eight cells by eight stores
-pub eight_put : (s : List ℕ) (at n : ℕ)
-    → set (set (set (set (set (set (set (set s at (n % 256)) (at + 1) (n / 256 % 256)) (at + 2) (n / 65536 % 256)) (at + 3) (n / 16777216 % 256)) (at + 4) (n / 4294967296 % 256)) (at + 5) (n / 1099511627776 % 256)) (at + 6) (n / 281474976710656 % 256)) (at + 7) (n / 72057594037927936 % 256)
-    ≡ sets s at (each 8 (byte_of n))
+-- the bytes of a number, the lowest first
+pub eight_bytes : (n : ℕ)
+    → (n % 256 ∷ n / 256 % 256 ∷ n / 65536 % 256 ∷ n / 16777216 % 256 ∷ n / 4294967296 % 256 ∷ n / 1099511627776 % 256 ∷ n / 281474976710656 % 256 ∷ n / 72057594037927936 % 256 ∷ [])
+    ≡ each 8 (byte_of n)
 unfolding byte_of each
-eight_put s at n =
-    let a : n % 256 ≡ n / 1 % 256 = omega arith in
-    let e1 : at + 1 ≡ suc at = omega arith in
-    let e2 : at + 2 ≡ suc (suc at) = omega arith in
-    let e3 : at + 3 ≡ suc (suc (suc at)) = omega arith in
-    let e4 : at + 4 ≡ suc (suc (suc (suc at))) = omega arith in
-    let e5 : at + 5 ≡ suc (suc (suc (suc (suc at)))) = omega arith in
-    let e6 : at + 6 ≡ suc (suc (suc (suc (suc (suc at))))) = omega arith in
-    let e7 : at + 7 ≡ suc (suc (suc (suc (suc (suc (suc at)))))) = omega arith in
-    rw (e1, e2, e3, e4, e5, e6, e7, a) refl
+eight_bytes n = let a : n % 256 ≡ n / 1 % 256 = omega arith in rw a refl
+
+pub few_bytes : (n few : ℕ) (bytes : List ℕ) → few ≤ 8 → bytes ≡ each 8 (byte_of n) → take few bytes ≡ each few (byte_of n)
+few_bytes n few bytes l e =
+    let m : few + (8 - few) ≡ 8 = omega arith in
+    ap (take few) (e ∙ ap (λ (k : ℕ). each k (byte_of n)) (sym m) ∙ each_plus few (8 - few) (byte_of n))
+    ∙ take_at (each few (byte_of n)) (each (8 - few) (λ (i : ℕ). byte_of n (few + i))) few (length-each few (byte_of n))
+
+-- a part of a list that is written, as the code names it
+pub part_put : (s part m : List ℕ) (at n : ℕ) → length part ≡ n → at + n ≤ length s → m ≡ part → put_mid at (at + n - at) s m ≡ sets s at part
+part_put s part m at n e h f =
+    subst (λ (k : ℕ). put_mid at (at + k - at) s m ≡ sets s at part) e (put_part s part m at (omega arith) f)

@@ -1,5 +1,6 @@
 -- The parts of a header, found place by place: what `names` and `rows_of` come to.
-use Prim.Native.Nat.{ℕ, ◌+◌, ◌^◌, ◌≤◌, ◌<◌}
+use Rattle.std.specs.Prelude.{Some, None}
+use Prim.Native.Nat.{ℕ, ◌+◌, ◌≤◌}
 use mathlib.Core.Path.{◌≡◌, refl, sym, subst, ap, ap₂, ◌∙◌}
 use mathlib.Core.List.{List}
 use mathlib.Core.Bool.{Bool, true, false, ◌&&◌, true≢false}
@@ -8,8 +9,6 @@ use native.Mathlib.Decide.{dec_le}
 use borrow.Author.Tests.{ne_eqb}
 use lib.Dec.{eqb, ltb}
 use lib.ListN.{length, get_or}
-use mir.Syntax.{w64}
-use mir.Val.{Fits}
 use Rattle.laws.proofs.Tests.{halves}
 use Rattle.pbm.specs.Page.{blank, digit, value_after}
 use Rattle.pbm.specs.Header.{Letter, first, next, run, past, from_gap, from_width, from_space, from_height, from_last, names, rows_of}
@@ -95,23 +94,19 @@ module _ (s : List ℕ) {p q g w e h d v u : ℕ}
         (side (from_width all) v width limits.0 limits.1 (wide ∙ ap (λ (l : List Letter). capped (value_after 0 (run digit l))) (sym at_width.is)))
         (side (from_height all) u height limits.2 limits.3 (high ∙ ap (λ (l : List Letter). capped (value_after 0 (run digit l))) (sym at_height.is))))
 
-    pub is_found : (((a && b) && ((x && y) && z)) && (eqb v width && eqb u height)) ≡ true → Finds s width height (d + 1)
+    pub is_found : (((a && b) && ((x && y) && z)) && (eqb v width && eqb u height)) ≡ true → Finds s width height (Some (d + 1))
     unfolding rows_of all
     is_found t =
         let m = (halves (a && b) ((x && y) && z) (halves ((a && b) && ((x && y) && z)) (eqb v width && eqb u height) t).0).1 in
         let l = (inside d (length s) z (blank (get_or s d 0)) lasts (halves (x && y) z m).1).0 in
         record {
-          found = λ n. (omega arith, omega arith, stands_after at_last l);
+          found = λ n. (omega arith, stands_after at_last l);
           not_found = λ n. absurd (true≢false (sym t ∙ sym tested ∙ n));
         }
 
-    pub is_not_found : (((a && b) && ((x && y) && z)) && (eqb v width && eqb u height)) ≡ false → Finds s width height 0
+    pub is_not_found : (((a && b) && ((x && y) && z)) && (eqb v width && eqb u height)) ≡ false → Finds s width height None
     is_not_found t =
         record {
           found = λ n. absurd (true≢false (sym n ∙ tested ∙ t));
           not_found = λ n. refl;
         }
-
--- the place after one in a file
-pub next_fits : (n m : ℕ) → n ≤ m → m < 2 ^ 63 → Fits w64 (n + 1)
-next_fits n m l h = record { fits = omega arith }

@@ -1,18 +1,18 @@
 -- Rows, byte by byte and cell by cell: what the loops over them keep.
 use Prim.Native.Nat.{ℕ, zero, suc, ◌+◌, ◌*◌, ◌-◌, ◌/◌, ◌%◌, ◌≤◌, ◌<◌}
 use mathlib.Core.Path.{◌≡◌, refl, sym, subst, ap, ap₂, ◌∙◌}
-use mathlib.Core.List.{List, [], ◌++◌, append-nil}
+use mathlib.Core.List.{List}
 use mathlib.Core.Bool.{Bool, true, false, cond, ◌&&◌}
 use native.Mathlib.Omega.{arith}
 use native.Mathlib.Decide.{dec_lt}
-use native.Mathlib.Nat.{zero-mul, sub-zero, div-add-mod', mod-lt, mul-le-mul, mul-le-mul_right}
+use native.Mathlib.Nat.{zero-mul, sub-zero, div-add-mod', mod-lt, mul-le-mul_right}
 use borrow.Author.Tests.{lt-ltb, le-ltb}
 use lib.Arith.{digits_div, digits_mod}
 use lib.Dec.{eqb, ltb}
-use lib.ListN.{length, get_or, set, take, drop, replicate, length-set, drop_of_length-le, length-replicate}
-use lib.Seq.{sets, length-sets, sets-eq, take_at}
+use lib.ListN.{length, get_or, set, replicate, length-set, length-replicate}
+use lib.Seq.{sets, length-sets}
 use Rattle.laws.specs.Below.{each}
-use Rattle.laws.proofs.Each.{length-each, each_as, each_plus, put_plus, put_one}
+use Rattle.laws.proofs.Each.{each_as, put_plus, put_one}
 use Rattle.sheet.specs.Sheet.{place}
 use Rattle.sheet.specs.declared.Shape.{Shape}
 use Rattle.sheet.proofs.Places.{get_or_by, get_d_kept, by_as, by_none, by_then, written, put_by, written_in, written_before, written_after}
@@ -48,18 +48,6 @@ puts_more {before} {at} {f} {out} {after} {n} m p g h l same e =
     ∙ sym (put_plus before at n m f)
     ∙ ap (λ (k : ℕ). sets before at (each k f)) (sym l) in
     record { size = ap length is ∙ length-sets before at (each p f); is = is }
-
-pub puts_end : {before : List ℕ} {at : ℕ} {f : ℕ → ℕ} {out : List ℕ} {n : ℕ} (m : ℕ) → Puts before at f out n → n ≡ m → out ≡ sets before at (each m f)
-puts_end {before} {at} {f} m h e = h.is ∙ ap (λ (k : ℕ). sets before at (each k f)) e
-
--- the first few of eight cells
-pub few_cells : (z e : List ℕ) (n : ℕ) (f : ℕ → ℕ) → length z ≡ 8 → e ≡ sets z 0 (each 8 f) → n ≤ 8 → take n e ≡ each n f
-few_cells z e n f h g l =
-    let none : drop (0 + length (each 8 f)) z ≡ [] = drop_of_length-le z {i = 0 + length (each 8 f)} (omega (arith, length-each 8 f)) in
-    let m : n + (8 - n) ≡ 8 = omega arith in
-    let parts = ap (λ (k : ℕ). each k f) (sym m) ∙ each_plus n (8 - n) f in
-    ap (take n) (g ∙ sets-eq (each 8 f) z 0 (omega (arith, length-each 8 f)) ∙ ap (λ (x : List ℕ). each 8 f ++ x) none ∙ append-nil (each 8 f) ∙ parts)
-    ∙ take_at (each n f) (each (8 - n) (λ (i : ℕ). f (n + i))) n (length-each n f)
 
 -- the bits of a row's byte j
 row_bits : (p : List ℕ) (from j i : ℕ) → i < 8 → bit_at (get_or p (from + j) 0) i ≡ row_bit p from (j * 8 + i)
@@ -243,9 +231,6 @@ lays_one {p} {before} {from} {width} {pitch} {s} {y} after count disjoint broad 
 -- a row's bytes end within all rows' bytes, and begin below 2^21
 pub raster_ends : (height y count : ℕ) → y < height → y * count + count ≤ height * count
 raster_ends height y count l = omega (arith, mul-le-mul_right count l)
-
-pub raster_small : (y count : ℕ) → y ≤ 4096 → count ≤ 512 → y * count ≤ 2097152
-raster_small y count l h = mul-le-mul {n₁ = y} {m₁ = count} {n₂ = 4096} {m₂ = 512} l h
 
 -- zeros are padded
 zeros_at : (n i : ℕ) → ◌≡◌ {A = ℕ} (get_or (replicate n 0) i 0) 0

@@ -8,7 +8,7 @@ use lib.ListN.{length}
 use Rattle.sheet.specs.Reply.{done, unless}
 use Rattle.sheet.specs.Drawing.{if_sheet, Drawing}
 use Rattle.sheet.specs.declared.Shape.{Shape}
-use Rattle.sheet.specs.declared.Refusal.TheVariants.{Header, Pixels}
+use Rattle.sheet.specs.declared.refusal.Refusal.TheVariants.{Header, Pixels}
 use Rattle.pbm.specs.Picture.{raster_byte_count}
 use Rattle.pbm.specs.Page.{Headed}
 use Rattle.pbm.specs.Header.{names, rows_of}

@@ -6,7 +6,7 @@ use mathlib.Core.Bool.{Bool, true, false, cond, not, ◌&&◌, true≢false}
 use native.Mathlib.Omega.{arith}
 use native.Mathlib.Numerals.{add-one}
 use native.Mathlib.Decide.{dec_le, dec_lt}
-use borrow.Author.Tests.{eq-eqb, ne_eqb, ltb-true, lt-ltb, le-ltb, leb-true, le-leb, lt-leb}
+use borrow.Author.Tests.{ne_eqb, ltb-true, lt-ltb, le-ltb, leb-true, le-leb, lt-leb}
 use lib.Dec.{eqb, ltb, leb}
 use lib.ListN.{length, get_or, drop, drop_of_length-le}
 use lib.Seq.{drop-cons}
@@ -35,17 +35,8 @@ at_letter s at l e =
     ∙ ap (λ (t : Bool). cond t (letters true (drop (suc at) s)) (letter_at s at ∷ letters false (drop (suc at) s))) e
     ∙ ap (λ (n : ℕ). letter_at s at ∷ letters_at s n) (sym (add-one at))
 
--- the loop that finds a letter: it has found one, goes on, or is at the end
+-- the loop that finds a letter: it goes on, or is at the end
 module _ (s : List ℕ) (from : ℕ) (within : Bool) (at : ℕ) (same : letters within (drop at s) ≡ letters_at s from) where
-  pub found : at < length s → (not within && not (eqb (get_or s at 0) 35)) ≡ true → Stands s (letters_at s from) at
-  found l e = by within same e (eqb (get_or s at 0) 35) refl
-    where
-      by : (w : Bool) → letters w (drop at s) ≡ letters_at s from → (not w && not (eqb (get_or s at 0) 35)) ≡ true → (t : Bool) → eqb (get_or s at 0) 35 ≡ t
-          → Stands s (letters_at s from) at
-      by true m e t f = absurd (true≢false (sym e))
-      by false m e true f = absurd (true≢false (sym e ∙ ap not f))
-      by false m e false f = record { is = sym m; within = omega arith; outside = λ l g. true≢false (sym (eq-eqb (get_or s at 0) 35 g) ∙ f) }
-
   pub goes_on : (r : Bool) → at < length s → (not within && not (eqb (get_or s at 0) 35)) ≡ false → r ≡ ending (get_or s at 0)
       → letters (not (within && r)) (drop (at + 1) s) ≡ letters_at s from
   unfolding letters
@@ -120,9 +111,6 @@ pub record Skips (test : ℕ → Bool) (s : List ℕ) (from at : ℕ) : Type 0 w
 again : {s : List ℕ} {ls : List Letter} {at : ℕ} → Stands s ls at → Stands s (letters_at s at) at
 again h = record { is = refl; within = h.within; outside = h.outside }
 
-pub skips_begin : {test : ℕ → Bool} {s : List ℕ} {from at : ℕ} → Stands s (letters_at s from) at → Skips test s from at
-skips_begin {test} h = record { stands = again h; rest = ap (past test) (sym h.is) }
-
 pub skips_more : {test : ℕ → Bool} {s : List ℕ} {from at n : ℕ} → Skips test s from at → (ltb at (length s) && test (get_or s at 0)) ≡ true
     → Stands s (letters_at s (at + 1)) n → Skips test s from n
 skips_more {test} k e h =
@@ -177,9 +165,6 @@ pub record Counts (s : List ℕ) (from value at : ℕ) : Type 0 where
   pub small : value ≤ 4097
   pub all : capped (value_after value (run digit (letters_at s at))) ≡ capped (value_after 0 (run digit (letters_at s from)))
 
-pub counts_begin : {s : List ℕ} {from at : ℕ} → Stands s (letters_at s from) at → Counts s from 0 at
-counts_begin h = record { small = omega arith; all = ap (λ (ls : List Letter). capped (value_after 0 (run digit ls))) (sym h.is) }
-
 pub counts_more : {s : List ℕ} {from value at n v : ℕ} → Skips digit s from at → Counts s from value at → (ltb at (length s) && digit (get_or s at 0)) ≡ true
     → Stands s (letters_at s (at + 1)) n → v ≡ capped (10 * value + (get_or s at 0 - 48)) → Counts s from v n
 unfolding value_after
@@ -203,13 +188,6 @@ counts_end {s} {from} {value} {at} k c e =
     sym (capped_small value c.small (dec_le value 4096))
     ∙ ap (λ (xs : List ℕ). capped (value_after value xs)) (sym (run_ends digit (letters_at s at) (stands_first k.stands digit ∙ e)).0)
     ∙ c.all
-
--- what the tests of a place answer, before the file's end and at it
-pub before_end : (at n : ℕ) (r b : Bool) → at < n → r ≡ b → r ≡ (ltb at n && b)
-before_end at n r b l e = e ∙ sym (ap (λ (t : Bool). t && b) (lt-ltb at n l))
-
-pub at_the_end : (at n : ℕ) (b : Bool) → n ≤ at → false ≡ (ltb at n && b)
-at_the_end at n b l = sym (ap (λ (t : Bool). t && b) (le-ltb at n l))
 
 -- a digit has a value
 pub digit_value : (c : ℕ) → digit c ≡ true → (48 ≤ c) × (c ≤ 57)

@@ -1,5 +1,5 @@
 -- What only the inner functions promise each other.
-use Rattle.std.specs.Prelude.{ℕ, zero, suc, ◌+◌, ◌*◌, ◌/◌, ◌%◌, ◌^◌, ◌≤◌, ◌<◌, ◌≡◌, List, true, false, cond, ◌&&◌, leb, ltb, length, get_or, drop}
+use Rattle.std.specs.Prelude.{ℕ, zero, suc, ◌+◌, ◌*◌, ◌/◌, ◌%◌, ◌^◌, ◌≤◌, ◌<◌, ◌≡◌, List, true, false, cond, ◌&&◌, leb, ltb, length, get_or, drop, Option, Some, None}
 use Rattle.sheet.specs.Sheet.{by_place}
 use Rattle.sheet.specs.declared.Shape.{Shape}
 use Rattle.pbm.specs.Picture.{row_byte_count, packed, bit_of}
@@ -19,10 +19,14 @@ pub record Stands (s : List ℕ) (ls : List Letter) (at : ℕ) : Type 0 where
 unfoldable pub capped : ℕ → ℕ
 capped v = cond (leb v 4096) v 4097
 
--- where the rows of a picture of a size begin; 0 where the file names no such picture
-pub record Finds (s : List ℕ) (width height at : ℕ) : Type 0 where
-  pub found : names width height s ≡ true → (1 ≤ at) × (at ≤ length s) × (rows_of s ≡ drop at s)
-  pub not_found : names width height s ≡ false → at ≡ 0
+-- where the rows of a picture of a size begin; none where the file names no such picture
+abbrev pub Begins : List ℕ → Option ℕ → Type 0
+Begins s (Some at) = (at ≤ length s) × (rows_of s ≡ drop at s)
+Begins s None = ⊥
+
+pub record Finds (s : List ℕ) (width height : ℕ) (at : Option ℕ) : Type 0 where
+  pub found : names width height s ≡ true → Begins s at
+  pub not_found : names width height s ≡ false → at ≡ None
 
 -- the flag of a cell; flags are 0 and 1
 unfoldable pub flag_at : List ℕ → ℕ → ℕ → ℕ

@@ -6,7 +6,7 @@ use Rattle.sheet.specs.Sheet.{place, cell_of}
 use Rattle.sheet.specs.Reply.{Answer, done, unless, settled}
 use Rattle.sheet.specs.Drawing.{if_sheet}
 use Rattle.sheet.specs.declared.Shape.{Shape}
-use Rattle.sheet.specs.declared.Refusal.TheVariants.{Buffer}
+use Rattle.sheet.specs.declared.refusal.Refusal.TheVariants.{Buffer}
 
 -- P4, newline, width, blank, height, newline
 unfoldable pub header_bytes : ℕ → ℕ → List ℕ

@@ -4,7 +4,7 @@ use Rattle.sheet.specs.Reply.{Answer, done, unless}
 use Rattle.sheet.specs.Drawing.{Drawing, if_sheet}
 use Rattle.sheet.specs.declared.Cell.{Cell}
 use Rattle.sheet.specs.declared.Shape.{Shape}
-use Rattle.sheet.specs.declared.Refusal.TheVariants.{Header, Pixels}
+use Rattle.sheet.specs.declared.refusal.Refusal.TheVariants.{Header, Pixels}
 use Rattle.pbm.specs.Picture.{row_byte_count, raster_byte_count}
 use Rattle.pbm.specs.Header.{names, rows_of}
 

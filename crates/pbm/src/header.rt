@@ -6,9 +6,9 @@ ghost use Rattle.pbm.specs.Picture.{header_bytes};
 ghost use Rattle.pbm.specs.Inner.{Finds};
 
 use crate::letters::{blank_at, find, is_at, read_number, skip_blanks};
-use crate::put;
 
 // How many digits a side of a sheet has.
+#[tactic(auto, using(crate::proofs::Decimals::one_digit, crate::proofs::Decimals::two_digits, crate::proofs::Decimals::three_digits, crate::proofs::Decimals::four_digits_lem))]
 fn digits(n: u32) -> usize
     requires { n ≤ 4096 }
     ensures value { result ≡ length (decimal n) }
@@ -26,6 +26,7 @@ fn digits(n: u32) -> usize
 }
 
 // The header's length.
+#[tactic(auto, using(crate::proofs::Decimals::header_long))]
 pub(crate) fn size(width: u32, height: u32) -> usize
     requires { (width ≤ 4096) × (height ≤ 4096) }
     ensures { (result ≡ length (header_bytes width height)) × (result ≤ 13) }
@@ -47,7 +48,7 @@ fn put_number(out: &mut [u8], at: usize, n: u32) -> usize
 {
     let text = [ones(n / 1000), ones(n / 100), ones(n / 10), ones(n)];
     let count = digits(n);
-    put(out, at, &text[4 - count..]);
+    out[at..at + count].copy_from_slice(&text[4 - count..]);
     at + count
 }
 
@@ -67,8 +68,8 @@ pub(crate) fn put_header(out: &mut [u8], width: u32, height: u32) -> usize
     down + 1
 }
 
-// Where the rows of a picture of this size begin; 0 where the header breaks the rules or names another size.
-pub(crate) fn find_rows(file: &[u8], width: u32, height: u32) -> usize
+// Where the rows of a picture of this size begin; none where the header breaks the rules or names another size.
+pub(crate) fn find_rows(file: &[u8], width: u32, height: u32) -> Option<usize>
     requires { (1 ≤ width) × (width ≤ 4096) × (1 ≤ height) × (height ≤ 4096) }
     ensures { Finds file.now width height result }
 {
@@ -81,8 +82,8 @@ pub(crate) fn find_rows(file: &[u8], width: u32, height: u32) -> usize
     let parted = blank_at(file, gap) & blank_at(file, across.end) & blank_at(file, down.end);
     let same = (across.value == width) & (down.value == height);
     if magic & parted & same {
-        down.end + 1
+        Some(down.end + 1)
     } else {
-        0
+        None
     }
 }

@@ -4,8 +4,9 @@ ghost use Rattle.pbm.specs.Page.{blank, digit, ending, value_after};
 ghost use Rattle.pbm.specs.Header.{run, past};
 ghost use Rattle.pbm.specs.Inner.{letters_at, Stands, capped};
 
-// A number of a header, 4,097 where it is larger than any side of a sheet, and the place after it.
-#[derive(Clone, Copy)]
+// A number of a header, 4,097 where it is larger than any side of a sheet, and the place after it. It is capped and no `Option`, since a
+// header goes on after a number of any length.
+#[derive(Clone, Copy, Debug, PartialEq, Eq, Hash)]
 pub(crate) struct Number {
     pub value: u32,
     pub end: usize,
@@ -30,19 +31,18 @@ fn is_digit(byte: u8) -> bool
 }
 
 // The place of the first byte from a place on that stands outside comments.
+#[tactic(auto, using(crate::proofs::Standing::goes_on, crate::proofs::Standing::at_last))]
 pub(crate) fn find(file: &[u8], from: usize) -> usize
     ensures stands { Stands file.now (letters_at file.now from) result }
     ensures lower_bound { from ≤ length file.now → from ≤ result }
 {
-    let mut at = from;
     let mut within = false;
-    while at < file.len() {
+    for at in from..file.len() {
         let byte = file[at];
         if !within & (byte != b'#') {
             return at;
         }
         within = !(within & is_ending(byte));
-        at += 1;
     }
     file.len()
 }
@@ -51,36 +51,25 @@ pub(crate) fn find(file: &[u8], from: usize) -> usize
 pub(crate) fn is_at(file: &[u8], at: usize, byte: u8) -> bool
     ensures { result ≡ (ltb at (length file.now) && eqb byte (get_or file.now at 0)) }
 {
-    if at < file.len() {
-        byte == file[at]
-    } else {
-        false
-    }
+    file.get(at).is_some_and(|b| *b == byte)
 }
 
 // Whether a blank does.
 pub(crate) fn blank_at(file: &[u8], at: usize) -> bool
     ensures { result ≡ (ltb at (length file.now) && blank (get_or file.now at 0)) }
 {
-    if at < file.len() {
-        is_blank(file[at])
-    } else {
-        false
-    }
+    file.get(at).is_some_and(|b| is_blank(*b))
 }
 
 // Whether a digit does.
 fn digit_at(file: &[u8], at: usize) -> bool
     ensures { result ≡ (ltb at (length file.now) && digit (get_or file.now at 0)) }
 {
-    if at < file.len() {
-        is_digit(file[at])
-    } else {
-        false
-    }
+    file.get(at).is_some_and(|b| is_digit(*b))
 }
 
 // The place after blanks.
+#[tactic(auto, using(crate::proofs::Standing::skips_more, crate::proofs::Standing::skips_end))]
 pub(crate) fn skip_blanks(file: &[u8], from: usize) -> usize
     ensures { Stands file.now (past blank (letters_at file.now from)) result }
 {
@@ -92,6 +81,7 @@ pub(crate) fn skip_blanks(file: &[u8], from: usize) -> usize
 }
 
 // A number with one more digit, in the same bound.
+#[tactic(auto, unfolding(crate::specs::Inner::capped))]
 fn appended(value: u32, byte: u8) -> u32
     requires { (value ≤ 4097) × (digit byte ≡ true) }
     ensures { result ≡ capped (10 * value + (byte - 48)) }

@@ -6,7 +6,6 @@ ghost use Rattle.sheet.specs.Inner.{Sheet};
 ghost use Rattle.pbm.specs.Picture.{row_byte_count, raster_byte_count, bit_of, raster_byte};
 ghost use Rattle.pbm.specs.Inner.{spread, Table, byte_of, flag_at, four_of, Flags, packed_at, row_bit, laid};
 
-use crate::put;
 use sheet::Shape;
 
 // How many bytes a row takes.
@@ -21,7 +20,7 @@ pub(crate) fn row_bytes(width: usize) -> usize
 fn flag(ink: u8) -> u8
     ensures { result ≡ bit_of ink }
 {
-    if ink == 0 { 0 } else { 1 }
+    u8::from(ink != 0)
 }
 
 // Flags the cells of a row.
@@ -29,21 +28,18 @@ fn flag_row(sheet: &[u8], from: usize, width: usize, flags: &mut [u8])
     requires { (from + width ≤ length sheet.now) × (width ≤ length flags.old) }
     ensures { flags.new ≡ sets flags.old 0 (each width (flag_at sheet.now from)) }
 {
-    let mut x = 0;
-    while x < width {
+    for x in 0..width {
         flags[x] = flag(sheet[from + x]);
-        x += 1;
     }
 }
 
 // Four flags in the bytes of a number.
+#[tactic(auto, unfolding(crate::specs::Inner::four_of))]
 fn four(flags: &[u8], at: usize) -> u64
     requires { (at + 4 ≤ length flags.now) × Flags flags.now }
     ensures { result ≡ four_of flags.now at }
 {
-    let low = flags[at] as u64 + flags[at + 1] as u64 * 256;
-    let high = flags[at + 2] as u64 + flags[at + 3] as u64 * 256;
-    low + high * 65536
+    u32::from_le_bytes([flags[at], flags[at + 1], flags[at + 2], flags[at + 3]]) as u64
 }
 
 // Eight flags as a byte: one product brings each of them to its bit.
@@ -60,10 +56,8 @@ fn pack_row(flags: &[u8], out: &mut [u8], at: usize, count: usize)
     requires { (count * 8 ≤ length flags.now) × Flags flags.now × (at + count ≤ length out.old) }
     ensures { out.new ≡ sets out.old at (each count (λ (j : ℕ). packed_at flags.now (j * 8))) }
 {
-    let mut j = 0;
-    while j < count {
+    for j in 0..count {
         out[at + j] = pack(flags, j * 8);
-        j += 1;
     }
 }
 
@@ -77,11 +71,9 @@ pub(crate) fn put_rows(sheet: &[u8], shape: Shape, out: &mut [u8], at: usize)
     let pitch = shape.pitch as usize;
     let count = row_bytes(width);
     let mut flags = [0u8; 4096];
-    let mut y = 0;
-    while y < height {
+    for y in 0..height {
         flag_row(sheet, y * pitch, width, &mut flags);
         pack_row(&flags, out, at + y * count, count);
-        y += 1;
     }
 }
 
@@ -91,10 +83,8 @@ fn make_table(table: &mut [u64])
     ensures { Table table.new }
 {
     table[0] = 0;
-    let mut byte: usize = 1;
-    while byte < 256 {
+    for byte in 1..256 {
         table[byte] = table[byte / 2] / 256 + (byte % 2) as u64 * 0x0100_0000_0000_0000;
-        byte += 1;
     }
 }
 
@@ -111,14 +101,7 @@ fn lay(sheet: &mut [u8], at: usize, cells: u64)
     requires { at + 8 ≤ length sheet.old }
     ensures { sheet.new ≡ sets sheet.old at (each 8 (byte_of cells)) }
 {
-    sheet[at] = (cells % 256) as u8;
-    sheet[at + 1] = (cells / 0x0100 % 256) as u8;
-    sheet[at + 2] = (cells / 0x0001_0000 % 256) as u8;
-    sheet[at + 3] = (cells / 0x0100_0000 % 256) as u8;
-    sheet[at + 4] = (cells / 0x0001_0000_0000 % 256) as u8;
-    sheet[at + 5] = (cells / 0x0100_0000_0000 % 256) as u8;
-    sheet[at + 6] = (cells / 0x0001_0000_0000_0000 % 256) as u8;
-    sheet[at + 7] = (cells / 0x0100_0000_0000_0000 % 256) as u8;
+    sheet[at..at + 8].copy_from_slice(&cells.to_le_bytes());
 }
 
 // Lays the first few of eight cells.
@@ -126,9 +109,7 @@ fn lay_few(sheet: &mut [u8], at: usize, few: usize, cells: u64)
     requires { (at + few ≤ length sheet.old) × (few ≤ 8) }
     ensures { sheet.new ≡ sets sheet.old at (each few (byte_of cells)) }
 {
-    let mut eight = [0u8; 8];
-    lay(&mut eight, 0, cells);
-    put(sheet, at, &eight[..few]);
+    sheet[at..at + few].copy_from_slice(&cells.to_le_bytes()[..few]);
 }
 
 // Lays a row of a picture.
@@ -137,10 +118,8 @@ fn lay_row(sheet: &mut [u8], at: usize, width: usize, picture: &[u8], from: usiz
     ensures { sheet.new ≡ sets sheet.old at (each width (row_bit picture.now from)) }
 {
     let whole = width / 8;
-    let mut j = 0;
-    while j < whole {
+    for j in 0..whole {
         lay(sheet, at + j * 8, cells_of(table, picture[from + j]));
-        j += 1;
     }
     let left = width - whole * 8;
     if left == 0 {
@@ -165,9 +144,7 @@ pub(crate) fn lay_rows(sheet: &mut [u8], shape: Shape, picture: &[u8], from: usi
     let count = row_bytes(width);
     let mut table = [0u64; 256];
     make_table(&mut table);
-    let mut y = 0;
-    while y < height {
+    for y in 0..height {
         lay_row(sheet, y * pitch, width, picture, from + y * count, &table);
-        y += 1;
     }
 }

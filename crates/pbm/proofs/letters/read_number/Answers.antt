@@ -1,7 +1,5 @@
 -- `pbm::letters::read_number` meets its contract.
-use Prim.Native.Nat.{◌-◌}
 use mathlib.Core.Path.{◌∙◌, sym}
-use mathlib.Core.Bool.{true}
 use Rattle.pbm.proofs.Standing.{counts_end, counts_more, skips_end, skips_more}
 use Rattle.pbm.proofs.letters.read_number.Goals as goal
 

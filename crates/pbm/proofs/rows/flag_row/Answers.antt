@@ -1,5 +1,4 @@
 -- `pbm::rows::flag_row` meets its contract.
-use Prim.Native.Nat.{◌-◌}
 use native.Mathlib.Omega.{arith}
 use Rattle.pbm.proofs.Raster.{flag_is, puts_none, puts_one}
 use Rattle.pbm.proofs.rows.flag_row.Goals as goal

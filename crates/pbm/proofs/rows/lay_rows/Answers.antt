@@ -1,5 +1,4 @@
 -- `pbm::rows::lay_rows` meets its contract.
-use Prim.Native.Nat.{◌-◌}
 use native.Mathlib.Omega.{arith}
 use Rattle.pbm.proofs.Raster.{lays_none, lays_one}
 use Rattle.pbm.proofs.rows.lay_rows.Goals as goal

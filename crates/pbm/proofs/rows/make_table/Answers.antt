@@ -1,5 +1,4 @@
 -- `pbm::rows::make_table` meets its contract.
-use Prim.Native.Nat.{◌-◌}
 use mathlib.Core.Path.{refl}
 use native.Mathlib.Omega.{arith}
 use Rattle.pbm.proofs.Bits.{making_first, making_next}

@@ -1,10 +1,7 @@
 -- `pbm::rows::make_table` meets its contract.
-use Prim.Native.Nat.{◌-◌, ◌≤◌}
+use Prim.Native.Nat.{◌≤◌}
 use Rattle.pbm.proofs.Bits.{Making}
 use Rattle.pbm.proofs.rows.make_table.Given as goal
 
 abbrev pub invariant-loop-byte : goal.invariant-loop-byte
 invariant-loop-byte l = Making l.table l.byte × (1 ≤ l.byte) × (l.byte ≤ 256)
-
-abbrev pub decreases-loop-byte : goal.decreases-loop-byte
-decreases-loop-byte l = 256 - l.byte

@@ -1,5 +1,4 @@
 -- `pbm::rows::pack_row` meets its contract.
-use Prim.Native.Nat.{◌-◌}
 use mathlib.Core.Path.{refl}
 use native.Mathlib.Omega.{arith}
 use Rattle.pbm.proofs.Raster.{puts_none, puts_one}
