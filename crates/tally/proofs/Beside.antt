@@ -3,29 +3,29 @@ use Prim.Native.Nat.{ℕ, ◌≤◌, ◌<◌}
 use mathlib.Core.Path.{◌≡◌, refl, sym, subst, ap, ◌∙◌}
 use mathlib.Core.List.{List, []}
 use mathlib.Core.Logic.{◌⊎◌}
-use mathlib.Core.Bool.{Bool, true, false, cond, not, true≢false}
+use mathlib.Core.Bool.{Bool, true, false, cond, true≢false}
 use native.Mathlib.Omega.{arith}
 use lib.Dec.{eqb}
 use lib.ListN.{length, get_or}
-use Rattle.laws.proofs.Tests.{no, yes}
+use Rattle.std.specs.Prelude.{Result, Ok, Err}
 use Rattle.sheet.specs.Repaint.{nothing}
-use Rattle.sheet.specs.Reply.{Answer, done, with_box, is_done, settled}
+use Rattle.sheet.specs.Reply.{Answer, done, refuse, told, test_answer, with_box, is_done, settled}
 use Rattle.sheet.specs.Drawing.{paint_all, box_all, Drawing, Paints, telling, Draws}
 use Rattle.sheet.specs.Inner.{fits, Sheet}
 use Rattle.sheet.specs.declared.Cell.{Cell}
 use Rattle.sheet.specs.declared.Shape.{Shape}
+use Rattle.sheet.specs.declared.refusal.Refusal.{Refusal}
 use Rattle.sheet.specs.declared.repaint.Rectangle.{Rectangle}
 use Rattle.sheet.proofs.Boxes.{box_only}
 use Rattle.sheet.proofs.Draws.{keeps, kept, answer_as}
 use Rattle.sheet.proofs.Limits.{fits_sheet}
+use Rattle.sheet.proofs.Unique.{number_not_0}
 use Rattle.fill.specs.Fill.{FillsAs, Fills, FillsRows, fill_drawing}
 use Rattle.sheet.specs.declared.Figure.{Figure}
 use Rattle.sheet.specs.declared.Figure.TheVariants.{Line, Circle, Ellipse, Curve, Cubic}
 use Rattle.survey.specs.Metres.{in_cells}
 use Rattle.survey.specs.declared.Survey.{Survey}
 use Rattle.survey.specs.declared.Metres.{Metres}
-use Rattle.survey.specs.declared.InCells.{InCells}
-use Rattle.survey.specs.declared.InCells.TheVariants as cells
 use Rattle.drawing.specs.Figure.{figure_drawing}
 use Rattle.drawing.specs.File.{file_form, draw_file_answer}
 use Rattle.drawing.specs.Metres.{cells_drawing, metres_drawing}
@@ -42,14 +42,14 @@ pub record Listed (k : Shape) (lent rows : List ℕ) : Type 0 where
   pub places : length rows ≡ k.height
   pub held : right k lent rows ≡ true
 
--- what `check` told, and what `is_done` answered of it: after `if !tested.is_done()`, taken and left
-module _ (k : Shape) (lent rows : List ℕ) (a : Answer) (r : Bool) (tested : a ≡ if_tally k (length lent) lent rows (done [])) (asked : r ≡ is_done a) where
-  pub no_list : not r ≡ true → (next : Answer) → if_tally k (length lent) lent rows next ≡ a
-  no_list e next = refused_tally k (length lent) lent rows next (ap is_done (sym tested) ∙ no r (is_done a) asked e) ∙ sym tested
+-- what `check` has shown that was answered with a refusal, and with none
+module _ (k : Shape) (lent rows : List ℕ) where
+  pub no_list : (r : Refusal) → told test_answer (Err r) ≡ if_tally k (length lent) lent rows (done []) → (next : Answer) → if_tally k (length lent) lent rows next ≡ refuse r
+  no_list r e next = refused_tally k (length lent) lent rows next (ap is_done (sym e) ∙ number_not_0 r) ∙ sym e
 
-  pub is_list : not r ≡ false → Listed k lent rows
+  pub is_list : told test_answer (Ok tt) ≡ if_tally k (length lent) lent rows (done []) → Listed k lent rows
   is_list e =
-      let p = done_tally k (length lent) lent rows (done []) (ap is_done (sym tested) ∙ yes r (is_done a) asked e) in
+      let p = done_tally k (length lent) lent rows (done []) (ap is_done (sym e)) in
       record { fit = p.0; places = p.1; held = p.2 }
 
 -- a form keeps the number
@@ -70,10 +70,8 @@ module _ (form : Answer → Answer) (same : Keeping form) (d : Drawing) (lent ro
   pub list_keeps : Paints (beside form lent rows d) lent (form a) lent
   list_keeps = keeps (beside form lent rows d) lent (form a) formed (ap form (is (d.answer (length lent))))
 
-  pub list_refused : (b : Answer) → b ≡ with_box (form a) nothing → Draws (beside form lent rows d) lent b lent × (rows ≡ recounted d.shape b lent rows)
-  list_refused b f =
-      let e : is_done b ≡ false = ap is_done f ∙ formed in
-      (kept (beside form lent rows d) lent (form a) b f formed (ap form (is (d.answer (length lent)))), sym (simp e))
+  pub list_refused : (b : Answer) → b ≡ with_box (form a) nothing → Draws (beside form lent rows d) lent b lent
+  list_refused b f = kept (beside form lent rows d) lent (form a) b f formed (ap form (is (d.answer (length lent))))
 
 -- beside a list that is right
 module _ (form : Answer → Answer) (d : Drawing) (lent rows : List ℕ) (L : Listed d.shape lent rows)
@@ -81,8 +79,8 @@ module _ (form : Answer → Answer) (d : Drawing) (lent rows : List ℕ) (L : Li
   beside_answer : form (if_tally d.shape (length lent) lent rows (d.answer (length lent))) ≡ d.answer (length lent)
   beside_answer = ap form (if_tally_lem d.shape (length lent) lent rows L.fit L.places L.held (d.answer (length lent))) ∙ same
 
-  told : Answer → Answer
-  told a = with_box a (settled a (box_all d.shape d.figures) nothing)
+  boxed : Answer → Answer
+  boxed a = with_box a (settled a (box_all d.shape d.figures) nothing)
 
   pub paints_beside : (b : Answer) (t : List ℕ) → Paints d lent b t → Paints (beside form lent rows d) lent b t
   paints_beside b t h = answer_as d.shape d.figures d.answer (beside form lent rows d).answer lent b t (sym beside_answer) h
@@ -91,12 +89,12 @@ module _ (form : Answer → Answer) (d : Drawing) (lent rows : List ℕ) (L : Li
   paints_without b t h = answer_as d.shape d.figures (beside form lent rows d).answer d.answer lent b t beside_answer h
 
   pub draws_beside : (b : Answer) (t : List ℕ) → Draws d lent b t → Draws (beside form lent rows d) lent b t
-  unfolding told
-  draws_beside b t h = answer_as d.shape d.figures (telling d).answer (telling (beside form lent rows d)).answer lent b t (ap told (sym beside_answer)) h
+  unfolding boxed
+  draws_beside b t h = answer_as d.shape d.figures (telling d).answer (telling (beside form lent rows d)).answer lent b t (ap boxed (sym beside_answer)) h
 
   pub draws_without : (b : Answer) (t : List ℕ) → Draws (beside form lent rows d) lent b t → Draws d lent b t
-  unfolding told
-  draws_without b t h = answer_as d.shape d.figures (telling (beside form lent rows d)).answer (telling d).answer lent b t (ap told beside_answer) h
+  unfolding boxed
+  draws_without b t h = answer_as d.shape d.figures (telling (beside form lent rows d)).answer (telling d).answer lent b t (ap boxed beside_answer) h
 
 -- the rows that a drawing tells by its rectangle
 pub record Told (d : Drawing) (b : Answer) (top bottom : ℕ) : Type 0 where
@@ -164,32 +162,37 @@ module _ (d : Drawing) (lent rows : List ℕ) (b : Answer) (t : List ℕ) (h : P
           let c : bottom ≡ 0 = T.past ∙ simp e in
           counted_none d.shape t rows top bottom (omega arith) ∙ sym (simp e)
 
--- What each form of a drawing asks: refused by its test, free to count, and done. A drawing's shape may be known by an equation alone.
-module _ (form : Answer → Answer) (d : Drawing) (k : Shape) (p : d.shape ≡ k) (lent rows : List ℕ) (a : Answer) (r : Bool)
-    (tested : a ≡ if_tally k (length lent) lent rows (done [])) (asked : r ≡ is_done a) where
-  pub form_refused : Keeping form → not r ≡ true → (b : Answer) → b ≡ with_box (form a) nothing
-      → Draws (beside form lent rows d) lent b lent × (rows ≡ recounted k b lent rows)
-  form_refused same e b f =
-      let is : (next : Answer) → if_tally d.shape (length lent) lent rows next ≡ a =
-      λ next. ap (λ (j : Shape). if_tally j (length lent) lent rows next) p ∙ no_list k lent rows a r tested asked e next in
-      let z = list_refused form same d lent rows a is (no r (is_done a) asked e) b f in
-      (z.0, z.1 ∙ ap (λ (j : Shape). recounted j b lent rows) p)
+-- What each form of a drawing asks: refused by its test, refused by itself, free to count, and done. A drawing's shape may be known by an equation alone.
+module _ (form : Answer → Answer) (d : Drawing) (k : Shape) (p : d.shape ≡ k) (lent rows : List ℕ) where
+  pub form_refused : Keeping form → (r : Refusal) → told test_answer (Err r) ≡ if_tally k (length lent) lent rows (done []) → (b : Answer)
+      → b ≡ with_box (form (refuse r)) nothing → Draws (beside form lent rows d) lent b lent × (rows ≡ recounted k b lent rows)
+  form_refused same r e b f =
+      let is : (next : Answer) → if_tally d.shape (length lent) lent rows next ≡ refuse r =
+      λ next. ap (λ (j : Shape). if_tally j (length lent) lent rows next) p ∙ no_list k lent rows r e next in
+      let refused : is_done b ≡ false = ap is_done f ∙ ap (λ (m : ℕ). eqb m 0) (same (refuse r)) ∙ number_not_0 r in
+      (list_refused form same d lent rows (refuse r) is (number_not_0 r) b f, sym (simp refused))
 
-  module _ (e : not r ≡ false) (b : Answer) (t : List ℕ) (h : Draws d lent b t) where
+  module _ (tested : told test_answer (Ok tt) ≡ if_tally k (length lent) lent rows (done [])) (b : Answer) (t : List ℕ) (h : Draws d lent b t) where
     listed : Listed d.shape lent rows
-    listed = subst (λ (j : Shape). Listed j lent rows) (sym p) (is_list k lent rows a r tested asked e)
+    listed = subst (λ (j : Shape). Listed j lent rows) (sym p) (is_list k lent rows tested)
 
     pub form_ready : Beside k t rows × (b.box.bottom ≤ k.height)
     form_ready =
         let z = may_count (telling d) lent rows b t h listed b.box.top b.box.bottom (box_rows d lent b t h) in
         (subst (λ (j : Shape). Beside j t rows) p z.0, subst (λ (j : Shape). b.box.bottom ≤ j.height) p z.1)
 
+    pub form_draws : form (d.answer (length lent)) ≡ d.answer (length lent) → Draws (beside form lent rows d) lent b t
+    form_draws same = draws_beside form d lent rows listed same b t h
+
+    pub form_counts : (after : List ℕ) → after ≡ counted_rows k t b.box.top b.box.bottom rows → after ≡ recounted k b t rows
+    form_counts after c =
+        let f : after ≡ counted_rows d.shape t b.box.top b.box.bottom rows = c ∙ ap (λ (j : Shape). counted_rows j t b.box.top b.box.bottom rows) (sym p) in
+        counted_rows_lem (telling d) lent rows b t h listed b.box.top b.box.bottom (box_rows d lent b t h) after f
+        ∙ ap (λ (j : Shape). recounted j b t rows) p
+
     pub form_done : form (d.answer (length lent)) ≡ d.answer (length lent) → (after : List ℕ) → after ≡ counted_rows k t b.box.top b.box.bottom rows
         → Draws (beside form lent rows d) lent b t × (after ≡ recounted k b t rows)
-    form_done same after c =
-        let f : after ≡ counted_rows d.shape t b.box.top b.box.bottom rows = c ∙ ap (λ (j : Shape). counted_rows j t b.box.top b.box.bottom rows) (sym p) in
-        let g = counted_rows_lem (telling d) lent rows b t h listed b.box.top b.box.bottom (box_rows d lent b t h) after f in
-        (draws_beside form d lent rows listed same b t h, g ∙ ap (λ (j : Shape). recounted j b t rows) p)
+    form_done same after c = (form_draws same, form_counts after c)
 
 -- the shape of a figure's drawing, and of one in metres
 pub figure_shape : (k : Shape) (ink : ℕ) (f : Figure) → (figure_drawing k ink f).shape ≡ k
@@ -202,18 +205,18 @@ figure_shape k ink (Cubic p q r t s) = refl
 pub metres_shape : (k : Shape) (ink : ℕ) (s : Survey) (f : Metres) → (metres_drawing k ink s f).shape ≡ k
 metres_shape k ink s f = by (in_cells s f)
   where
-    by : (i : InCells) → (cells_drawing k ink i).shape ≡ k
-    by (cells.Figure g) = figure_shape k ink g
-    by (cells.Refused r) = refl
+    by : (i : Result Figure Refusal) → (cells_drawing k ink i).shape ≡ k
+    by (Ok g) = figure_shape k ink g
+    by (Err r) = refl
 
 -- a fill beside a list, refused for it
-pub fill_list_refused : {k : Shape} {start : Cell} {boundary ink places : ℕ} {lent : List ℕ} {a : Answer} (rows : List ℕ)
-    → ((next : Answer) → if_tally k (length lent) lent rows next ≡ a) → is_done a ≡ false → FillsAs (beside plain lent rows) k start boundary ink places lent a lent
-fill_list_refused {k} {start} {boundary} {ink} {places} {lent} {a} rows is n =
+pub fill_list_refused : {k : Shape} {start : Cell} {boundary ink places : ℕ} {lent : List ℕ} (rows : List ℕ) (r : Refusal)
+    → ((next : Answer) → if_tally k (length lent) lent rows next ≡ refuse r) → FillsAs (beside plain lent rows) k start boundary ink places lent (refuse r) lent
+fill_list_refused {k} {start} {boundary} {ink} {places} {lent} rows r is =
     record {
       territory = λ (c : Cell). false;
-      decides = λ e. absurd (true≢false (sym e ∙ n));
-      draws = list_keeps plain (λ b. refl) (fill_drawing k start ink (λ (c : Cell). false) places) lent rows a is n;
+      decides = λ e. absurd (true≢false (sym e ∙ number_not_0 r));
+      draws = list_keeps plain (λ b. refl) (fill_drawing k start ink (λ (c : Cell). false) places) lent rows (refuse r) is (number_not_0 r);
     }
 
 -- and beside one that is right

@@ -33,12 +33,6 @@ module _ (s : List ℕ) (at : ℕ) where
   unfolding inked
   inked_most n = count_most n (λ (i : ℕ). not (eqb (get_or s (at + i) 0) 0))
 
-  -- a turn of a loop that counts them
-  pub inked_turn : (i n r : ℕ) → n ≡ inked s at i → r ≡ cond (eqb (get_or s (at + i) 0) 0) 0 1 → (n + r ≡ inked s at (i + 1)) × (n + r ≤ i + 1)
-  inked_turn i n r e f =
-      let g : n + r ≡ inked s at (i + 1) = omega (arith, e, f, inked_one i) in
-      (g, omega (arith, g, inked_most (i + 1)))
-
   -- n bytes more
   pub inked_add : (m n : ℕ) → inked s at (m + n) ≡ inked s at m + inked s (at + m) n
   unfolding inked

@@ -1,11 +1,11 @@
 -- The laws of the numbers of rows: a list that is right, and rows that are counted again.
-use Prim.Native.Nat.{ℕ, ◌+◌, ◌-◌, ◌*◌, ◌<◌, ◌≤◌}
+use Prim.Native.Nat.{ℕ, ◌+◌, ◌*◌, ◌<◌, ◌≤◌, max}
 use mathlib.Core.Path.{◌≡◌, refl, sym, ap, ◌∙◌}
 use mathlib.Core.List.{List}
 use mathlib.Core.Logic.{◌⊎◌, inl, inr}
 use mathlib.Core.Bool.{Bool, true, false, cond, not, ◌&&◌, true≢false}
 use native.Mathlib.Omega.{arith}
-use native.Mathlib.Decide.{ℕ_discrete, dec_le, dec_lt}
+use native.Mathlib.Decide.{dec_le, dec_lt}
 use borrow.Author.Tests.{eq-eqb, ne_eqb, eqb-true, le-leb, lt-leb, lt-ltb, le-ltb}
 use lib.Dec.{T, eqb, leb, ltb}
 use lib.ListN.{length, get_or, set, length-set}
@@ -72,7 +72,7 @@ module _ (k : Shape) (s rows : List ℕ) where
           rw e (rw (eq-eqb y y refl, le-leb from y l, lt-ltb y (y + 1) (omega arith)) refl)
 
   -- a loop from a row on to before another, that ends where it began or at the other
-  pub counted_end : (from to y : ℕ) → to ≤ y → from ≤ y → y ≤ to + (from - to) → counted_rows k s from y rows ≡ counted_rows k s from to rows
+  pub counted_end : (from to y : ℕ) → to ≤ y → from ≤ y → y ≤ max from to → counted_rows k s from y rows ≡ counted_rows k s from to rows
   counted_end from to y a b c = by (dec_le from to)
     where
       by : Dec (from ≤ to) → counted_rows k s from y rows ≡ counted_rows k s from to rows
@@ -119,13 +119,3 @@ lists_one {s} {rows₀} {from} {width} {pitch} {rows} {y} {r} L l e =
 -- the places before y hold the numbers of their rows
 pub record Holds (s rows : List ℕ) (width pitch y : ℕ) : Type 0 where
   pub at : (j : ℕ) → j < y → get_or rows j 0 ≡ inked s (j * pitch) width
-
-pub holds_none : (s rows : List ℕ) (width pitch : ℕ) → Holds s rows width pitch 0
-holds_none s rows width pitch = record { at = λ j l. absurd (omega arith) }
-
-pub holds_one : {s rows : List ℕ} {width pitch y : ℕ} → Holds s rows width pitch y → get_or rows y 0 ≡ inked s (y * pitch) width → Holds s rows width pitch (y + 1)
-holds_one {s} {rows} {width} {pitch} {y} H e = record { at = λ j l. by j l (ℕ_discrete j y) }
-  where
-    by : (j : ℕ) → j < y + 1 → Dec (j ≡ y) → get_or rows j 0 ≡ inked s (j * pitch) width
-    by j l (yes f) = rw f e
-    by j l (no f) = H.at j (omega arith)

@@ -5,7 +5,7 @@ use Rattle.sheet.specs.Sheet.{place, cell_of, by_place}
 use Rattle.sheet.specs.Reply.{Answer, done, unless, settled}
 use Rattle.sheet.specs.Drawing.{Drawing, if_sheet}
 use Rattle.sheet.specs.declared.Shape.{Shape}
-use Rattle.sheet.specs.declared.Refusal.TheVariants.{Places, Tally}
+use Rattle.sheet.specs.declared.refusal.Refusal.TheVariants.{Places, Tally}
 
 -- How many of a row's cells are nonzero: padding is no cell.
 unfoldable pub row_count : Shape → List ℕ → ℕ → ℕ

@@ -2,10 +2,12 @@
 #![tactic(auto)]
 
 mod figure;
+mod file;
 mod list;
 mod row;
 mod territory;
 
-pub use figure::{draw_figure, draw_file, draw_metres};
+pub use figure::{draw_figure, draw_metres};
+pub use file::draw_file;
 pub use list::{check, count};
 pub use territory::fill;

@@ -1,25 +1,21 @@
 // A list against a sheet, and counting rows.
 ghost use Rattle.std.specs.Prelude.{◌≡◌, [], ◌≤◌, length};
-ghost use Rattle.sheet.specs.Reply.{told, done};
+ghost use Rattle.sheet.specs.Reply.{told, test_answer, done};
 ghost use Rattle.tally.specs.Tally.{right, if_places, if_tally, Counts};
 ghost use Rattle.tally.specs.Inner.{Beside, counted_rows};
 
 use crate::row::count_row;
-use sheet::{Refusal, Reply, Shape};
+use sheet::{Refusal, Shape};
 
-// Tests a sheet and the length of its list: done, where that has one place for each row.
-fn check_places(shape: Shape, bytes: usize, places: usize) -> Reply
-    ensures { told result ≡ if_places shape bytes places (done []) }
+// Tests a sheet and the length of its list, which has one place for each row.
+fn check_places(shape: Shape, bytes: usize, places: usize) -> Result<(), Refusal>
+    ensures { told test_answer result ≡ if_places shape bytes places (done []) }
 {
-    let tested = sheet::check(shape, bytes);
-    if !tested.is_done() {
-        return tested;
+    shape.check(bytes)?;
+    if places != shape.height as usize {
+        return Err(Refusal::Places);
     }
-    let height = shape.height;
-    if places != height as usize {
-        return Reply::Refused(Refusal::Places);
-    }
-    Reply::Done
+    Ok(())
 }
 
 // Tests a list against a sheet: whether it is right.
@@ -30,54 +26,45 @@ fn is_right(sheet: &[u8], shape: Shape, rows: &[u32]) -> bool
     let width = shape.width as usize;
     let height = shape.height as usize;
     let pitch = shape.pitch as usize;
-    let mut y = 0;
-    while y < height {
+    for y in 0..height {
         if rows[y] != count_row(sheet, y * pitch, width) {
             return false;
         }
-        y += 1;
     }
     true
 }
 
 // Counts the rows from one to before another.
-pub(crate) fn count_rows(sheet: &[u8], shape: Shape, rows: &mut [u32], from: usize, to: usize)
+pub(crate) fn count_rows(sheet: &[u8], shape: Shape, rows: &mut [u32], from: u32, to: u32)
     requires beside { Beside shape sheet.now rows.old }
     requires to_le_height { to ≤ shape.height }
     ensures { rows.new ≡ counted_rows shape sheet.now from to rows.old }
 {
     let width = shape.width as usize;
     let pitch = shape.pitch as usize;
-    let mut y = from;
-    while y < to {
+    for y in from as usize..to as usize {
         rows[y] = count_row(sheet, y * pitch, width);
-        y += 1;
     }
 }
 
-// Tests a sheet and its list, as every drawing beside a list does first.
-pub fn check(sheet: &[u8], shape: Shape, rows: &[u32]) -> Reply
-    ensures { told result ≡ if_tally shape (length sheet.now) sheet.now rows.now (done []) }
+/// Tests a sheet and its list, as every drawing beside a list does first: the list has one place for each row, and in it how many
+/// cells of the row are nonzero.
+pub fn check(sheet: &[u8], shape: Shape, rows: &[u32]) -> Result<(), Refusal>
+    ensures { told test_answer result
+        ≡ if_tally shape (length sheet.now) sheet.now rows.now (done []) }
 {
-    let tested = check_places(shape, sheet.len(), rows.len());
-    if !tested.is_done() {
-        return tested;
-    }
+    check_places(shape, sheet.len(), rows.len())?;
     if !is_right(sheet, shape, rows) {
-        return Reply::Refused(Refusal::Tally);
+        return Err(Refusal::Tally);
     }
-    Reply::Done
+    Ok(())
 }
 
-// Counts the sheet afresh, whatever the list held.
-pub fn count(sheet: &[u8], shape: Shape, rows: &mut [u32]) -> Reply
-    ensures { Counts shape sheet.now rows.old (told result) rows.new }
+/// Counts the sheet afresh, whatever the list held.
+pub fn count(sheet: &[u8], shape: Shape, rows: &mut [u32]) -> Result<(), Refusal>
+    ensures { Counts shape sheet.now rows.old (told test_answer result) rows.new }
 {
-    let tested = check_places(shape, sheet.len(), rows.len());
-    if !tested.is_done() {
-        return tested;
-    }
-    let height = shape.height;
-    count_rows(sheet, shape, rows, 0, height as usize);
-    Reply::Done
+    check_places(shape, sheet.len(), rows.len())?;
+    count_rows(sheet, shape, rows, 0, shape.height);
+    Ok(())
 }

@@ -6,10 +6,11 @@ ghost use Rattle.tally.specs.Inner.{inked};
 fn one(cell: u8) -> u8
     ensures { result ≡ cond (eqb cell 0) 0 1 }
 {
-    if cell == 0 { 0 } else { 1 }
+    u8::from(cell != 0)
 }
 
 // Of 128 cells.
+#[tactic(auto, using(crate::proofs::Inked::inked_none, crate::proofs::Inked::inked_one, crate::proofs::Inked::inked_most))]
 fn count_block(sheet: &[u8], at: usize) -> u8
     requires { at + 128 ≤ length sheet.now }
     ensures { result ≡ inked sheet.now at 128 }
@@ -22,15 +23,14 @@ fn count_block(sheet: &[u8], at: usize) -> u8
 }
 
 // Of fewer than 256 cells.
+#[tactic(auto, using(crate::proofs::Inked::inked_none, crate::proofs::Inked::inked_one, crate::proofs::Inked::inked_most))]
 fn count_few(sheet: &[u8], at: usize, cells: usize) -> u8
     requires { (at + cells ≤ length sheet.now) × (cells < 256) }
     ensures { result ≡ inked sheet.now at cells }
 {
     let mut n: u8 = 0;
-    let mut i = 0;
-    while i < cells {
+    for i in 0..cells {
         n += one(sheet[at + i]);
-        i += 1;
     }
     n
 }
@@ -41,10 +41,9 @@ pub(crate) fn count_row(sheet: &[u8], at: usize, cells: usize) -> u32
     ensures { result ≡ inked sheet.now at cells }
 {
     let mut n: u32 = 0;
-    let mut i = 0;
-    while i + 128 <= cells {
-        n += count_block(sheet, at + i) as u32;
-        i += 128;
+    let blocks = cells / 128;
+    for block in 0..blocks {
+        n += count_block(sheet, at + 128 * block) as u32;
     }
-    n + count_few(sheet, at + i, cells - i) as u32
+    n + count_few(sheet, at + 128 * blocks, cells % 128) as u32
 }

@@ -1,27 +1,35 @@
 -- `tally::figure::draw_figure` meets its contract.
 use mathlib.Core.Path.{refl}
+use Rattle.sheet.specs.Reply.{drawn_answer}
+use Rattle.sheet.proofs.Lent.{told_err}
 use Rattle.drawing.specs.Figure.{figure_drawing}
 use Rattle.tally.specs.Tally.{plain}
-use Rattle.tally.proofs.Beside.{form_refused, form_ready, form_done, figure_shape}
+use Rattle.tally.proofs.Beside.{form_refused, form_ready, form_draws, form_counts, figure_shape}
 use Rattle.tally.proofs.figure.draw_figure.Goals as goal
 
-pub returns-then-not-is_done : goal.returns-then-not-is_done
-returns-then-not-is_done c =
+pub returns-in_err-check-clause-draws : goal.returns-in_err-check-clause-draws
+returns-in_err-check-clause-draws c =
     let a = c.args in
-    let all_clauses = form_refused plain (figure_drawing a.shape a.ink a.figure) _ (figure_shape a.shape a.ink a.figure) a.sheet.now a.rows.now _ _ c.check-tested.ensures c.is_done.ensures
-    (λ b. refl) c.if-not-is_done.true-raw _ c.undrawn.ensures in
-    record { draws = all_clauses.0; rows_after = all_clauses.1 }
+    (form_refused plain (figure_drawing a.shape a.ink a.figure) _ (figure_shape a.shape a.ink a.figure) a.sheet.now a.rows.now (λ b. refl) _ c.in_err-check.ensures _ (told_err drawn_answer _ _ c.from_residual.ensures.1)).0
+
+pub returns-in_err-drawn-clause-draws : goal.returns-in_err-drawn-clause-draws
+returns-in_err-drawn-clause-draws c =
+    let a = c.args in
+    rw (told_err drawn_answer _ _ c.from_residual-in_err-drawn.ensures.1)
+    (form_draws plain (figure_drawing a.shape a.ink a.figure) _ (figure_shape a.shape a.ink a.figure) a.sheet.now a.rows.now c.in_ok-check.ensures _ _ c.in_err-drawn.ensures refl)
 
 pub count_rows-requires : goal.count_rows-requires
 count_rows-requires c =
     let a = c.args in
-    let all_clauses = form_ready plain (figure_drawing a.shape a.ink a.figure) _ (figure_shape a.shape a.ink a.figure) a.sheet.now a.rows.now _ _ c.check-tested.ensures c.is_done.ensures
-    c.if-not-is_done.false-raw _ _ c.draw_figure-drawn.ensures in
-    record { beside = all_clauses.0; to_le_height = all_clauses.1 }
+    let r = form_ready plain (figure_drawing a.shape a.ink a.figure) _ (figure_shape a.shape a.ink a.figure) a.sheet.now a.rows.now c.in_ok-check.ensures _ _ c.in_ok-drawn.ensures in
+    record { beside = r.0; to_le_height = r.1 }
 
-pub returns : goal.returns
-returns c =
+pub returns-clause-draws : goal.returns-clause-draws
+returns-clause-draws c =
     let a = c.args in
-    let all_clauses = form_done plain (figure_drawing a.shape a.ink a.figure) _ (figure_shape a.shape a.ink a.figure) a.sheet.now a.rows.now _ _ c.check-tested.ensures c.is_done.ensures
-    c.if-not-is_done.false-raw _ _ c.draw_figure-drawn.ensures refl _ c.count_rows.ensures in
-    record { draws = all_clauses.0; rows_after = all_clauses.1 }
+    form_draws plain (figure_drawing a.shape a.ink a.figure) _ (figure_shape a.shape a.ink a.figure) a.sheet.now a.rows.now c.in_ok-check.ensures _ _ c.in_ok-drawn.ensures refl
+
+pub returns-clause-rows_after : goal.returns-clause-rows_after
+returns-clause-rows_after c =
+    let a = c.args in
+    form_counts plain (figure_drawing a.shape a.ink a.figure) _ (figure_shape a.shape a.ink a.figure) a.sheet.now a.rows.now c.in_ok-check.ensures _ _ c.in_ok-drawn.ensures _ c.count_rows.ensures

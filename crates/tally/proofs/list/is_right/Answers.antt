@@ -1,5 +1,4 @@
 -- `tally::list::is_right` meets its contract.
-use Prim.Native.Nat.{◌-◌}
 use mathlib.Core.Path.{◌∙◌, sym}
 use native.Mathlib.Omega.{arith}
 use Rattle.tally.proofs.Inked.{row_inked}
@@ -14,6 +13,5 @@ returns-then-rows-y c =
 
 pub returns : goal.returns
 returns c =
-    let l = c.loop-y in
     let a = c.args in
-    sym (right_all a.shape _ _ (λ y m. l.invariant.0.at y (omega (arith, c.loop-y-test.false)) ∙ row_inked a.shape _ y))
+    sym (right_all a.shape _ _ (λ y m. c.loop-y.invariant.at y (omega arith) ∙ row_inked a.shape _ y))

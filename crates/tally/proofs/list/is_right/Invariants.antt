@@ -1,10 +1,6 @@
 -- `tally::list::is_right` meets its contract.
-use Prim.Native.Nat.{◌-◌, ◌≤◌}
 use Rattle.tally.proofs.Rows.{Holds}
 use Rattle.tally.proofs.list.is_right.Given as goal
 
 abbrev pub invariant-loop-y : goal.invariant-loop-y
-invariant-loop-y l = Holds l.sheet l.rows l.width l.pitch l.y × (l.y ≤ l.height)
-
-abbrev pub decreases-loop-y : goal.decreases-loop-y
-decreases-loop-y l = l.height - l.y
+invariant-loop-y l = Holds l.sheet l.rows l.width l.pitch l.y

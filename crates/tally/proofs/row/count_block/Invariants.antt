@@ -1,8 +1,7 @@
 -- `tally::row::count_block` meets its contract.
-use Prim.Native.Nat.{◌-◌, ◌≤◌}
 use mathlib.Core.Path.{◌≡◌}
 use Rattle.tally.specs.Inner.{inked}
 use Rattle.tally.proofs.row.count_block.Given as goal
 
 abbrev pub invariant-loop-i : goal.invariant-loop-i
-invariant-loop-i l = (l.n ≡ inked l.sheet l.at l.i) × (l.i ≤ 128)
+invariant-loop-i l = l.n ≡ inked l.sheet l.at l.i

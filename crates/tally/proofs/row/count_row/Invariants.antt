@@ -1,11 +1,8 @@
 -- `tally::row::count_row` meets its contract.
-use Prim.Native.Nat.{◌-◌, ◌≤◌}
+use Prim.Native.Nat.{◌*◌}
 use mathlib.Core.Path.{◌≡◌}
 use Rattle.tally.specs.Inner.{inked}
 use Rattle.tally.proofs.row.count_row.Given as goal
 
-abbrev pub invariant-loop-i : goal.invariant-loop-i
-invariant-loop-i l = (l.n ≡ inked l.sheet l.at l.i) × (l.i ≤ l.cells)
-
-abbrev pub decreases-loop-i : goal.decreases-loop-i
-decreases-loop-i l = l.cells - l.i
+abbrev pub invariant-loop-block : goal.invariant-loop-block
+invariant-loop-block l = l.n ≡ inked l.sheet l.at (128 * l.block)
