@@ -2,13 +2,11 @@
 use Prim.Native.Nat.{ℕ, zero, suc, ◌+◌, ◌-◌, ◌/◌, ◌%◌, ◌^◌, ◌≤◌, ◌<◌}
 use mathlib.Core.Path.{◌≡◌, refl, sym, ap, ap₂, subst, ◌∙◌}
 use mathlib.Core.List.{List, [], ◌∷◌, ◌++◌}
-use mathlib.Core.Logic.{inl, inr}
 use mathlib.Core.Bool.{Bool, true, false, cond}
 use native.Mathlib.Omega.{arith}
-use native.Mathlib.Nat.{pow-suc, pow-zero, one-le-pow, pow-le-pow_right, mod-lt, mod-eq_of_lt}
-use lib.Dec.{ltb, lit<}
+use native.Mathlib.Nat.{pow-suc, pow-zero, one-le-pow, mod-lt, mod-eq_of_lt}
+use lib.Dec.{ltb}
 use borrow.Author.Tests.{ltb-true, ltb-false, lt-ltb}
-use Rattle.laws.proofs.Products.{lt_or_ge}
 use Rattle.io.specs.Digits.{hex_digit_ascii, last_digits, IsDigitCount}
 use Rattle.laws.specs.Text.{decimal_in, decimal}
 
@@ -54,15 +52,3 @@ fewest_in (suc n) v k l f = by (λ j m g. fewest_in n (v / 10) j m g) k f (ltb v
 pub fewest_decimal : (v k : ℕ) → IsDigitCount 10 1 v k → last_digits 10 k v ≡ decimal v
 unfolding decimal
 fewest_decimal v k f = fewest_in (suc v) v k (omega arith) f
-
--- a number of 64 bits has at most 20 digits
-pub fewest_20 : (v k : ℕ) → v < 2 ^ 64 → IsDigitCount 10 1 v k → k ≤ 20
-fewest_20 v k l f =
-    elim (lt_or_ge 20 k) [ inl g ↦ absurd (too_many g) | inr g ↦ g ]
-  where
-    too_many : 20 < k → ⊥
-    too_many g =
-        let h = f.2 (omega arith) in
-        let p : 10 ^ 20 ≤ 10 ^ (k - 1) = pow-le-pow_right {n = 10} (omega arith) {i = 20} {j = k - 1} (omega arith) in
-        let q : 2 ^ 64 < 10 ^ 20 = lit< tt in
-        omega arith

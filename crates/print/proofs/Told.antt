@@ -3,8 +3,7 @@ use Prim.Native.Nat.{ℕ, ◌≤◌, ◌<◌}
 use mathlib.Core.Path.{◌≡◌, sym, ap, ap₂, subst, ◌∙◌}
 use mathlib.Core.List.{List}
 use mathlib.Core.Bool.{Bool, true, false, cond}
-use native.Mathlib.Omega.{arith}
-use lib.ListN.{length, drop, length-append}
+use lib.ListN.{length}
 use borrow.Author.Tests.{le-leb, lt-leb}
 use Rattle.sheet.specs.Sheet.{bytes}
 use Rattle.sheet.specs.Reply.{Answer, is_done, value_of}
@@ -58,8 +57,3 @@ begins wanted text before after r e h =
 pub prints : (file text before after : List ℕ) (r : ℕ) → text_of file ≡ text → Written before text after r → r ≤ length before
     → (r ≡ length (text_of file)) × (after ≡ written_over (text_of file) before)
 prints file text before after r e w l = begins (text_of file) text before after r e (write_ends before text after r w l)
-
--- a reply's length lies within the bytes that begin with it
-pub within : (whole : Bool) (file before after : List ℕ) (r : ℕ) → (r ≡ length (reply_of whole file)) × (after ≡ written_over (reply_of whole file) before) → r ≤ length after
-within whole file before after r h =
-    omega (arith, h.0, ap length h.1, length-append (reply_of whole file) (drop (length (reply_of whole file)) before))

@@ -1,40 +1,13 @@
--- Parts of a text, written byte by byte and in turn: `sets l at p` is the list l with p written from place `at` on.
+-- Parts of a text, written in turn: `sets l at p` is the list l with p written from place `at` on.
 use Prim.Native.Nat.{ℕ, zero, suc, ◌+◌, ◌*◌, ◌≤◌, ◌<◌}
 use mathlib.Core.Path.{◌≡◌, refl, sym, ap, ◌∙◌}
 use mathlib.Core.List.{List, ◌++◌}
 use native.Mathlib.Omega.{arith}
-use native.Mathlib.Nat.{add-zero}
 use native.Mathlib.Numerals.{add-one}
-use lib.ListN.{length, get_or, set, drop, length-set, length-append, drop_of_length-le}
-use lib.Seq.{sets, length-sets, drop-cons}
+use lib.ListN.{length, length-append}
+use lib.Seq.{sets, length-sets}
 use Rattle.laws.proofs.Written.{sets_append}
 use Rattle.print.specs.Text.{in_turn}
-
--- a part of which i bytes are written
-pub record Copying (before : List ℕ) (at : ℕ) (part out : List ℕ) (i : ℕ) : Type 0 where
-  pub rest : sets out (at + i) (drop i part) ≡ sets before at part
-  pub kept : length out ≡ length before
-  pub within : i ≤ length part
-
-pub copy_begins : (before : List ℕ) (at : ℕ) (part : List ℕ) → Copying before at part before 0
-copy_begins before at part = record { rest = ap (λ (k : ℕ). sets before k part) (add-zero at); kept = refl; within = omega arith }
-
-pub copy_turn : (before : List ℕ) (at : ℕ) (part out : List ℕ) (i : ℕ) → Copying before at part out i → i < length part
-    → Copying before at part (set out (at + i) (get_or part i 0)) (i + 1)
-copy_turn before at part out i inv l =
-    let v = get_or part i 0 in
-    let e : at + (i + 1) ≡ suc (at + i) = omega arith in
-    record {
-      rest = ap (λ (k : ℕ). sets (set out (at + i) v) k (drop (i + 1) part)) e
-          ∙ ap (λ (k : ℕ). sets (set out (at + i) v) (suc (at + i)) (drop k part)) (add-one i)
-          ∙ sym (ap (λ (p : List ℕ). sets out (at + i) p) (drop-cons part i 0 l))
-          ∙ inv.rest;
-      kept = length-set out (at + i) v ∙ inv.kept;
-      within = omega arith;
-    }
-
-pub copy_ends : (before : List ℕ) (at : ℕ) (part out : List ℕ) (i : ℕ) → Copying before at part out i → length part ≤ i → out ≡ sets before at part
-copy_ends before at part out i inv l = sym (ap (λ (p : List ℕ). sets out (at + i) p) (drop_of_length-le part l)) ∙ inv.rest
 
 -- the length of n texts of m bytes
 pub length-in_turn : (n m : ℕ) (part : ℕ → List ℕ) → ((i : ℕ) → length (part i) ≡ m) → length (in_turn n part) ≡ n * m

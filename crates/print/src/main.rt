@@ -10,14 +10,14 @@ ghost use Rattle.print.specs.Run.{Answers, Holds};
 use std::io;
 use std::io::{Read, Write};
 
-// What was read: how many bytes, and whether no read failed.
-#[derive(Clone, Copy)]
+/// What was read: how many bytes, and whether no read failed. No `Result`, since what came before a failed read is counted too.
+#[derive(Clone, Copy, Debug, PartialEq, Eq, Hash)]
 struct Input {
     count: usize,
     whole: bool,
 }
 
-// Reads until the input ends, the room is full or a read fails.
+/// Reads until the input ends, the room is full or a read fails.
 fn read_input<R: Read>(reader: &mut R, room: &mut [u8]) -> Input
     ensures counts { IsPrefixLen result.count room.new }
     ensures holds { Holds (R.remaining reader.old) result.whole result.count room.new }
@@ -38,7 +38,7 @@ fn read_input<R: Read>(reader: &mut R, room: &mut [u8]) -> Input
     Input { count, whole: true }
 }
 
-// Writes the reply to what the reader has, and answers whether no read failed.
+/// Writes the reply to what the reader has, and answers whether no read failed.
 fn answer<R: Read, W: Write>(reader: &mut R, writer: &mut W) -> io::Result<bool>
     ensures { IfOk result (λ whole. Answers (R.remaining reader.old) (W.contents writer.old) (W.contents writer.new) whole) }
 {

@@ -6,7 +6,7 @@ ghost use Rattle.print.specs.Text.{character, line, picture, refusal, text_of, u
 
 use sheet::Shape;
 
-// Writes a part at a place, and answers the place after it.
+/// Writes a part at a place, and answers the place after it.
 fn put(out: &mut [u8], at: usize, part: &[u8]) -> usize
     requires { at + length part.now ≤ length out.old }
     ensures value { result ≡ at + length part.now }
@@ -17,7 +17,7 @@ fn put(out: &mut [u8], at: usize, part: &[u8]) -> usize
     end
 }
 
-// Writes a number in decimal digits, likewise.
+/// Writes a number in decimal digits, likewise.
 fn put_decimal(out: &mut [u8], at: usize, n: u64) -> usize
     requires { at + 20 ≤ length out.old }
     ensures value { result ≡ at + length (decimal n) }
@@ -29,7 +29,7 @@ fn put_decimal(out: &mut [u8], at: usize, n: u64) -> usize
     put(out, at, &digits[..count])
 }
 
-// Writes the line of a refusal, and answers its length.
+/// Writes the line of a refusal, and answers its length.
 fn put_refusal(out: &mut [u8], number: u32, offset: usize) -> usize
     requires { 53 ≤ length out.old }
     ensures value { result ≡ length (refusal number offset) }
@@ -43,7 +43,7 @@ fn put_refusal(out: &mut [u8], number: u32, offset: usize) -> usize
     put(out, ended, b"\n")
 }
 
-// Writes the line for an input that cannot be read, and answers its length.
+/// Writes the line for an input that cannot be read, and answers its length.
 fn put_unreadable(out: &mut [u8]) -> usize
     requires { 21 ≤ length out.old }
     ensures value { result ≡ length unreadable }
@@ -52,42 +52,38 @@ fn put_unreadable(out: &mut [u8]) -> usize
     put(out, 0, b"input cannot be read\n")
 }
 
-// The character of a byte.
+/// The character of a byte.
 fn character(byte: u8) -> u8
     ensures { result ≡ character byte }
 {
     if byte == 0 { b'.' } else { b'#' }
 }
 
-// Writes line y of the picture of a sheet.
+/// Writes line y of the picture of a sheet.
 fn put_line(out: &mut [u8], sheet: &[u8], y: usize)
     requires in_bounds { 136 ≤ length out.old }
     requires sheet_len { length sheet.now ≡ 128 }
     requires y_bound { y < 8 }
     ensures { out.new ≡ sets out.old (y * 17) (line sheet.now y) }
 {
-    let mut x: usize = 0;
-    while x < 16 {
+    for x in 0..16 {
         out[y * 17 + x] = character(sheet[y * 16 + x]);
-        x += 1;
     }
     out[y * 17 + 16] = b'\n';
 }
 
-// Writes the picture of a sheet.
+/// Writes the picture of a sheet.
 fn put_picture(out: &mut [u8], sheet: &[u8])
     requires in_bounds { 136 ≤ length out.old }
     requires sheet_len { length sheet.now ≡ 128 }
     ensures { out.new ≡ sets out.old 0 (picture sheet.now) }
 {
-    let mut y: usize = 0;
-    while y < 8 {
+    for y in 0..8 {
         put_line(out, sheet, y);
-        y += 1;
     }
 }
 
-// Writes the whole text for the bytes of the input, and answers its length.
+/// Writes the whole text for the bytes of the input, and answers its length.
 pub fn text(file: &[u8], out: &mut [u8; 136]) -> usize
     ensures value { result ≡ length (text_of file.now) }
     ensures out_after { out.new ≡ written_over (text_of file.now) out.old }
@@ -101,16 +97,16 @@ pub fn text(file: &[u8], out: &mut [u8; 136]) -> usize
         height: 8,
         pitch: 16,
     };
-    let drawn = drawing::draw_file(&mut sheet, shape, file);
-    let reply = drawn.reply;
-    if !reply.is_done() {
-        return put_refusal(out, reply.number(), reply.value());
+    match drawing::draw_file(&mut sheet, shape, file) {
+        Ok(_) => {
+            put_picture(out, &sheet);
+            136
+        }
+        Err(f) => put_refusal(out, f.refusal.number(), f.offset),
     }
-    put_picture(out, &sheet);
-    136
 }
 
-// Writes the reply to what was read, the whole input or what came before a read failed, and answers its length.
+/// Writes the reply to what was read, the whole input or what came before a read failed, and answers its length.
 pub fn reply(whole: bool, file: &[u8], out: &mut [u8; 136]) -> usize
     ensures value { result ≡ length (reply_of whole file.now) }
     ensures out_after { out.new ≡ written_over (reply_of whole file.now) out.old }

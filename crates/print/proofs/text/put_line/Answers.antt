@@ -1,5 +1,5 @@
 -- `print::text::put_line` meets its contract.
-use Prim.Native.Nat.{◌+◌, ◌*◌, ◌-◌}
+use Prim.Native.Nat.{◌+◌, ◌*◌}
 use native.Mathlib.Omega.{arith}
 use Rattle.print.specs.Text.{character_at}
 use Rattle.print.proofs.Lines.{cell_long, cell_put, line_ends}

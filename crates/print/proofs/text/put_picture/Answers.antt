@@ -1,5 +1,5 @@
 -- `print::text::put_picture` meets its contract.
-use Prim.Native.Nat.{◌*◌, ◌-◌}
+use Prim.Native.Nat.{◌*◌}
 use native.Mathlib.Omega.{arith}
 use Rattle.print.specs.Text.{line}
 use Rattle.print.proofs.Lines.{line_long, picture_ends}

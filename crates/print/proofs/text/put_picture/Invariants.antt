@@ -1,11 +1,7 @@
 -- `print::text::put_picture` meets its contract.
-use Prim.Native.Nat.{◌-◌}
 use Rattle.print.specs.Text.{line}
 use Rattle.print.proofs.Writing.{Turns}
 use Rattle.print.proofs.text.put_picture.Given as goal
 
 abbrev pub invariant-loop-y : goal.invariant-loop-y
 invariant-loop-y l = Turns l.initial.out 0 8 17 (line l.sheet) l.out l.y
-
-abbrev pub decreases-loop-y : goal.decreases-loop-y
-decreases-loop-y l = 8 - l.y

@@ -1,7 +1,7 @@
 -- `print::text::text` meets its contract.
-use mathlib.Core.Path.{sym}
+use mathlib.Core.Path.{refl, sym}
 use native.Mathlib.Omega.{arith}
-use Rattle.laws.proofs.Tests.{no, yes}
+use Rattle.sheet.proofs.Unique.{number_not_0}
 use Rattle.print.specs.Text.{picture, refusal, too_long}
 use Rattle.print.proofs.Lines.{picture_long}
 use Rattle.print.proofs.Told.{text_too_long, text_drawn, text_refused, prints}
@@ -17,22 +17,22 @@ returns-then-file-gt4096 c =
     (omega (arith, c.put.ensures.value, c.well_formed)) in
     record { value = all_clauses.0; out_after = all_clauses.1 }
 
-pub returns-then-not-is_done : goal.returns-then-not-is_done
-returns-then-not-is_done c =
+pub returns-in-Ok : goal.returns-in-Ok
+returns-in-Ok c =
     let a = c.args in
-    let all_clauses = prints a.file.now (refusal c.number.result c.value.result) a.out.now _ c.put_refusal.result
-    (text_refused a.file.now _ _ c.if-file-gt4096.false c.draw_file-drawn.ensures c.number.result c.value.result
-    (no _ _ c.is_done.ensures c.if-not-is_done.true-raw) c.number.ensures c.value.ensures)
-    (record { bytes = c.put_refusal.ensures.out_after; long = c.put_refusal.ensures.value })
-    (omega (arith, c.put_refusal.ensures.upper_bound, c.well_formed)) in
-    record { value = all_clauses.0; out_after = all_clauses.1 }
-
-pub returns : goal.returns
-returns c =
-    let a = c.args in
-    let s = c.draw_file-drawn.new.sheet in
+    let s = c.draw_file.new.sheet in
     let all_clauses = prints a.file.now (picture s) a.out.now _ 136
-    (text_drawn a.file.now s _ c.if-file-gt4096.false c.draw_file-drawn.ensures (yes _ _ c.is_done.ensures c.if-not-is_done.false-raw))
+    (text_drawn a.file.now s _ c.if-file-gt4096.false c.in-Ok.ensures refl)
     (record { bytes = c.put_picture.ensures; long = sym (picture_long s) })
     (omega (arith, c.well_formed)) in
+    record { value = all_clauses.0; out_after = all_clauses.1 }
+
+pub returns-in-Err : goal.returns-in-Err
+returns-in-Err c =
+    let a = c.args in
+    let f = c.in-Err.f in
+    let all_clauses = prints a.file.now (refusal c.number.result f.offset) a.out.now _ c.put_refusal.result
+    (text_refused a.file.now _ _ c.if-file-gt4096.false c.in-Err.ensures c.number.result f.offset (number_not_0 f.refusal) c.number.ensures refl)
+    (record { bytes = c.put_refusal.ensures.out_after; long = c.put_refusal.ensures.value })
+    (omega (arith, c.put_refusal.ensures.upper_bound, c.well_formed)) in
     record { value = all_clauses.0; out_after = all_clauses.1 }
