@@ -7,13 +7,14 @@ use native.Mathlib.Omega.{arith}
 use lib.Dec.{leb}
 use lib.IntN.{ℤ}
 use lib.Ieee.{Float}
+use Rattle.std.specs.Prelude.{Result, Ok, Err}
 use Rattle.sheet.specs.Sheet.{on_sheet, cell, within_limits, axes, split, cells_on}
 use Rattle.sheet.specs.declared.Cell.{Cell}
 use Rattle.sheet.specs.declared.Shape.{Shape}
 use Rattle.sheet.specs.declared.Figure.{Figure}
-use Rattle.sheet.specs.declared.Refusal.{Refusal}
-use Rattle.sheet.specs.declared.Refusal.TheVariants.{Coordinate, Radius, Pieces, Room, Full, Work, Start}
-use Rattle.sheet.specs.declared.Refusal.TheVariants as refusal
+use Rattle.sheet.specs.declared.refusal.Refusal.{Refusal}
+use Rattle.sheet.specs.declared.refusal.Refusal.TheVariants.{Coordinate, Radius, Pieces, Room, Full, Work, Start}
+use Rattle.sheet.specs.declared.refusal.Refusal.TheVariants as refusal
 use Rattle.sheet.proofs.Count.{cells_most}
 use Rattle.sheet.proofs.Figures.{figure_cases}
 use Rattle.line.specs.Rule.{long, on_line}
@@ -22,14 +23,10 @@ use Rattle.line.specs.Listing.{list_answer}
 use Rattle.line.proofs.Bridge.{long_limit, ends_lifted}
 use Rattle.ring.specs.Draw.{ellipse_answer}
 use Rattle.curve.specs.Draw.{all_within_limits, curve_answer}
-use Rattle.survey.specs.Metres.{sound, eastward, northward, found_length, are_semi_axes, with_cell, within, figure_in, in_cells}
-use Rattle.survey.specs.declared.Found.{Found}
-use Rattle.survey.specs.declared.Found.TheVariants.{At, NoCell}
+use Rattle.survey.specs.Metres.{sound, eastward, northward, found_length, are_semi_axes, with_cell, within, cell_in_cells, figure_in, in_cells}
 use Rattle.survey.specs.declared.Survey.{Survey}
 use Rattle.survey.specs.declared.Metres.{Metres}
 use Rattle.survey.specs.declared.Metres.TheVariants as metres
-use Rattle.survey.specs.declared.InCells.{InCells}
-use Rattle.survey.specs.declared.InCells.TheVariants.{Figure as Is, Refused}
 use Rattle.fill.specs.Fill.{fill_answer}
 use Rattle.record.specs.Writing.{record_size, write_answer}
 use Rattle.drawing.specs.Metres.{cells_drawing, metres_drawing}
@@ -80,17 +77,22 @@ curve_tells k ps s n =
 
 -- in metres they tell what they do in cells, or a refusal
 module _ (k : Shape) (ink n : ℕ) (P : List ℤ → Type 0) where
-  record TellsIn (c : InCells) : Type 0 where
+  record TellsIn (c : Result Figure Refusal) : Type 0 where
     tells : Tells P ((cells_drawing k ink c).answer n)
 
-  refuses : (r : Refusal) → TellsIn (Refused r)
+  refuses : (r : Refusal) → TellsIn (Err r)
   refuses r = record { tells = sheet_tells k n _ (λ e. Tells.refused r) }
 
-  field : (f : Found) (next : ℤ → InCells) → ((z : ℤ) → TellsIn (next z)) → TellsIn (with_cell f next)
-  field (At z) next h = h z
-  field NoCell next h = refuses refusal.NoCell
+  field : (f : Result ℤ Refusal) (next : ℤ → Result Figure Refusal) → ((z : ℤ) → TellsIn (next z)) → TellsIn (with_cell f next)
+  field (Ok z) next h = h z
+  field (Err r) next h = refuses r
 
-  limited : (t : Bool) (f : Figure) → TellsIn (Is f) → TellsIn (within t f)
+  place : (x y : Result ℤ Refusal) (next : Cell → Result Figure Refusal) → ((c : Cell) → TellsIn (next c)) → TellsIn (with_cell (cell_in_cells x y) next)
+  place (Ok i) (Ok j) next h = h (cell i j)
+  place (Ok i) (Err r) next h = refuses r
+  place (Err r) y next h = refuses r
+
+  limited : (t : Bool) (f : Figure) → TellsIn (Ok f) → TellsIn (within t f)
   limited true f h = h
   limited false f h = refuses Radius
 
@@ -98,21 +100,19 @@ module _ (k : Shape) (ink n : ℕ) (P : List ℤ → Type 0) where
   unfolding in_cells
   in_metres s f h = (by (sound s)).tells
     where
-      by : (t : Bool) → TellsIn (cond t (figure_in s f) (Refused refusal.Survey))
+      by : (t : Bool) → TellsIn (cond t (figure_in s f) (Err refusal.Survey))
       by true = h
       by false = refuses refusal.Survey
 
 module _ (k : Shape) (ink n : ℕ) (s : Survey) where
   pub line_metres_tells : (x0 y0 x1 y1 : Float) → Tells One ((metres_drawing k ink s (metres.Line x0 y0 x1 y1)).answer n)
   line_metres_tells x0 y0 x1 y1 =
-      let next = field k ink n One in
       in_metres k ink n One s (metres.Line x0 y0 x1 y1)
-      (next (eastward s x0) _ (λ a. next (northward s y0) _ (λ b. next (eastward s x1) _ (λ c. next (northward s y1) _ (λ d.
-      record { tells = line_tells k (cell a b) (cell c d) n })))))
+      (place k ink n One (eastward s x0) (northward s y0) _ (λ a. place k ink n One (eastward s x1) (northward s y1) _ (λ b. record { tells = line_tells k a b n })))
 
   pub ellipse_metres_tells : (x y a b : Float) → Tells None ((metres_drawing k ink s (metres.Ellipse x y a b)).answer n)
   ellipse_metres_tells x y a b =
-      let next = field k ink n None in
+      let length = field k ink n None in
       in_metres k ink n None s (metres.Ellipse x y a b)
-      (next (eastward s x) _ (λ i. next (northward s y) _ (λ j. next (found_length a s.size) _ (λ c. next (found_length b s.size) _ (λ d.
-      limited k ink n None (are_semi_axes c d) _ (record { tells = ellipse_tells k (cell i j) _ _ n }))))))
+      (place k ink n None (eastward s x) (northward s y) _ (λ c. length (found_length a s.size) _ (λ d. length (found_length b s.size) _ (λ e.
+      limited k ink n None (are_semi_axes d e) _ (record { tells = ellipse_tells k c _ _ n })))))

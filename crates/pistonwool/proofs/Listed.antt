@@ -9,7 +9,7 @@ use lib.ListN.{length}
 use Rattle.sheet.specs.Reply.{Answer, done, value_of, settled}
 use Rattle.sheet.specs.Drawing.{Drawing, Draws}
 use Rattle.sheet.specs.declared.Shape.{Shape}
-use Rattle.sheet.specs.declared.Refusal.TheVariants.{Places, Tally}
+use Rattle.sheet.specs.declared.refusal.Refusal.TheVariants.{Places, Tally}
 use Rattle.tally.specs.Tally.{tally_of, right, if_places, if_tally, recounted, beside, plain}
 use Rattle.pistonwool.specs.Told.{numbered, counted, Keeps, box_numbers, DrawsInto}
 use Rattle.pistonwool.proofs.Told.{Tells, unless_tells, sheet_tells, None, number_told, One, draws_number, draws_small, draws_count}

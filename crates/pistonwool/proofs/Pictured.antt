@@ -7,7 +7,7 @@ use lib.ListN.{length}
 use Rattle.sheet.specs.Reply.{Answer, value_of, settled}
 use Rattle.sheet.specs.Drawing.{Paints}
 use Rattle.sheet.specs.declared.Shape.{Shape}
-use Rattle.sheet.specs.declared.Refusal.TheVariants.{Buffer, Header, Pixels}
+use Rattle.sheet.specs.declared.refusal.Refusal.TheVariants.{Buffer, Header, Pixels}
 use Rattle.pbm.specs.Picture.{raster_byte_count, picture_of, write_answer, Writes}
 use Rattle.pbm.specs.Header.{names, rows_of}
 use Rattle.pbm.specs.Reading.{read_answer, read_drawing}

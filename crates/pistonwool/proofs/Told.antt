@@ -1,39 +1,43 @@
 -- What the callee told, told on to C: the number, and the value.
-use Prim.Native.Nat.{ℕ, ◌-◌, ◌≤◌, ◌<◌}
+use Prim.Native.Nat.{ℕ, ◌<◌}
 use mathlib.Core.Path.{◌≡◌, refl, sym, subst, ap, ap₂, ◌∙◌}
 use mathlib.Core.List.{List, [], ◌∷◌}
 use mathlib.Core.Bool.{Bool, true, false}
 use native.Mathlib.Omega.{arith}
-use borrow.Author.Tests.{lt-ltb, le-ltb}
 use lib.Dec.{eqb}
 use lib.IntN.{ℤ, pos}
 use lib.ListN.{length}
+use Rattle.std.specs.Prelude.{Result, Ok, Err}
 use mir.Syntax.{w32}
 use mir.Val.{SFits, to_z, of_z}
 use mir.Facts.{to_z-of_z}
 use Rattle.sheet.specs.Sheet.{cell}
 use Rattle.sheet.specs.Reply as reply
-use Rattle.sheet.specs.Reply.{Answer, number, refuse, with_box, unless, is_done, value_of, settled}
+use Rattle.sheet.specs.Reply.{Answer, number, refuse, told, test_answer, with_box, unless, is_done, value_of, settled}
 use Rattle.sheet.specs.Repaint.{nothing}
 use Rattle.sheet.specs.Drawing.{if_sheet, box_all, Drawing, Draws}
 use Rattle.sheet.specs.Inner.{fits}
 use Rattle.sheet.specs.declared.Cell.{Cell}
 use Rattle.sheet.specs.declared.Shape.{Shape}
 use Rattle.sheet.specs.declared.Figure.{Figure}
-use Rattle.sheet.specs.declared.Refusal.{Refusal}
-use Rattle.sheet.specs.declared.repaint.Rectangle.{Rectangle}
+use Rattle.sheet.specs.declared.refusal.Refusal.{Refusal}
 use Rattle.sheet.proofs.Lent.{sheet_cases}
 use Rattle.sheet.proofs.Unique.{number_not_0}
 use Rattle.line.specs.Listing.{list_answer, ListsInto}
 use Rattle.fill.specs.Fill.{fill_drawing, FillsAs, Spares}
 use Rattle.record.specs.Writing.{write_answer, Writes}
-use Rattle.record.specs.Rescue.{Lent, Rescues}
 use Rattle.record.proofs.Written.{writes_as}
-use Rattle.pistonwool.specs.Told.{numbered, counted, two_counted, Keeps, box_numbers, DrawsInto}
+use Rattle.pistonwool.specs.Inner.{reply_number}
+use Rattle.pistonwool.specs.Told.{numbered, counted, Keeps, box_numbers, DrawsInto}
 
 -- a cell, as the machine reads its coordinates back from their bits
 pub cell_back : (x y : ℤ) → SFits w32 x → SFits w32 y → cell (to_z w32 (of_z w32 x)) (to_z w32 (of_z w32 y)) ≡ cell x y
 cell_back x y f g = ap₂ cell (to_z-of_z f) (to_z-of_z g)
+
+-- the number of a test is that of its answer
+pub test_number : (r : Result (Unit {0}) Refusal) → reply_number r ≡ (told test_answer r).number
+test_number (Ok a) = refl
+test_number (Err r) = refl
 
 -- an answer that is a refusal, or done with values of a form
 pub data Tells (P : List ℤ → Type 0) : (a : Answer) → Type 0 where
@@ -54,14 +58,6 @@ None v = v ≡ []
 pub number_told : (a : Answer) → Tells None a → a ≡ numbered a.number
 number_told _ (Tells.refused r) = refl
 number_told _ (Tells.done v e) = ap reply.done e
-
--- the four numbers, for no cell and for some
-module _ (a : Answer) (r : Rectangle) (s : List ℕ) (d : is_done a ≡ true) where
-  pub box_none : r.right ≤ r.left → 0 ∷ 0 ∷ 0 ∷ 0 ∷ [] ≡ settled a (box_numbers r) s
-  box_none l = sym (simp (d, le-ltb r.left r.right l))
-
-  pub box_some : (h : ℕ) → r.left < r.right → h ≡ r.bottom - r.top → r.left ∷ r.top ∷ (r.right - r.left) ∷ h ∷ [] ≡ settled a (box_numbers r) s
-  box_some h l e = (λ i. r.left ∷ r.top ∷ (r.right - r.left) ∷ e i ∷ []) ∙ sym (simp (d, lt-ltb r.left r.right l))
 
 -- a drawing's answer, told with its rectangle
 module _ (d : Drawing) (s t : List ℕ) (a : Answer) (h : Draws d s a t) where
@@ -165,10 +161,3 @@ pub writes_count : (filled ink : ℕ) (f g : Figure) (s t : List ℕ) (a : Answe
 writes_count filled ink f g s t a n v same h p e =
     let q = value_told a (subst (Tells Value) (sym h.tells) p) n v filled e.0 e.1 in
     (writes_as filled ink f g s (counted n v) t same (subst (λ (b : Answer). Writes filled ink f s b t) q.0 h), q.1)
-
--- of a rescue that is refused C is told the number alone, whatever stands in the two places
-pub refused_told : (q : Refusal) (d v w : ℕ) → d ≡ number q → refuse q ≡ two_counted d v w
-refused_told q d v w e = rw e (simp (number_not_0 q))
-
-pub rescues_as : {s : List ℕ} {l t : Lent} {a b : Answer} → a ≡ b → Rescues s l a t → Rescues s l b t
-rescues_as {s} {l} {t} e h = subst (λ (a : Answer). Rescues s l a t) e h

@@ -7,10 +7,10 @@ ghost use Rattle.ring.specs.Draw.{ellipse_drawing};
 ghost use Rattle.curve.specs.Draw.{curve_drawing};
 ghost use Rattle.pistonwool.specs.Told.{shape_of, numbered, counted, Keeps, DrawsInto};
 
-use crate::{tell_box, tell_cells};
+use crate::{tell, tell_cells, tell_counted};
 use sheet::{Cell, Shape};
 
-// Draws a line; its number of cells on the sheet goes to cells, unless it is refused.
+/// Draws a line; its number of cells on the sheet goes to cells, unless it is refused.
 #[unsafe(no_mangle)]
 pub extern "C" fn pw_line(
     sheet: &mut [u8],
@@ -37,12 +37,10 @@ pub extern "C" fn pw_line(
     let from = Cell { x: x0, y: y0 };
     let to = Cell { x: x1, y: y1 };
     let drawn = line::draw_line(sheet, shape, ink, from, to);
-    tell_box(drawn, told);
-    let reply = drawn.reply;
-    tell_cells(reply, cells)
+    tell_counted(drawn, cells, told)
 }
 
-// Draws an ellipse; a circle of radius r is that of semi-axes r and r.
+/// Draws an ellipse; a circle of radius r is that of semi-axes r and r.
 #[unsafe(no_mangle)]
 pub extern "C" fn pw_ellipse(
     sheet: &mut [u8],
@@ -66,12 +64,10 @@ pub extern "C" fn pw_ellipse(
     };
     let centre = Cell { x, y };
     let drawn = ring::draw_ellipse(sheet, shape, ink, centre, a, b);
-    tell_box(drawn, told);
-    let reply = drawn.reply;
-    reply.number()
+    tell(drawn, told)
 }
 
-// Draws a quadratic curve in 2^s pieces.
+/// Draws a quadratic curve in 2^s pieces.
 #[unsafe(no_mangle)]
 pub extern "C" fn pw_curve(
     sheet: &mut [u8],
@@ -100,12 +96,10 @@ pub extern "C" fn pw_curve(
     let p1 = Cell { x: x1, y: y1 };
     let p2 = Cell { x: x2, y: y2 };
     let drawn = curve::draw_curve(sheet, shape, ink, p0, p1, p2, s);
-    tell_box(drawn, told);
-    let reply = drawn.reply;
-    reply.number()
+    tell(drawn, told)
 }
 
-// Draws a cubic curve in 2^s pieces.
+/// Draws a cubic curve in 2^s pieces.
 #[unsafe(no_mangle)]
 pub extern "C" fn pw_cubic(
     sheet: &mut [u8],
@@ -137,12 +131,10 @@ pub extern "C" fn pw_cubic(
     let p2 = Cell { x: x2, y: y2 };
     let p3 = Cell { x: x3, y: y3 };
     let drawn = curve::draw_cubic(sheet, shape, ink, p0, p1, p2, p3, s);
-    tell_box(drawn, told);
-    let reply = drawn.reply;
-    reply.number()
+    tell(drawn, told)
 }
 
-// Lists the cells of a line from its first end; their number goes to cells, unless it is refused.
+/// Lists the cells of a line from its first end; their number goes to cells, unless it is refused.
 #[unsafe(no_mangle)]
 pub extern "C" fn pw_list(
     xs: &mut [i32],
@@ -159,5 +151,6 @@ pub extern "C" fn pw_list(
 {
     let from = Cell { x: x0, y: y0 };
     let to = Cell { x: x1, y: y1 };
-    tell_cells(line::list_line(xs, ys, from, to), cells)
+    let listed = line::list_line(xs, ys, from, to);
+    tell_cells(listed, cells)
 }

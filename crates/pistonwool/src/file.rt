@@ -2,10 +2,10 @@
 ghost use Rattle.drawing.specs.File.{file_drawing};
 ghost use Rattle.pistonwool.specs.Told.{shape_of, replied, DrawsInto};
 
-use crate::tell_box;
+use crate::tell_file;
 use sheet::Shape;
 
-// Draws a file; its number of records goes to value, or the offset of what is refused.
+/// Draws a file; its number of records goes to value, or the offset of what is refused.
 #[unsafe(no_mangle)]
 pub extern "C" fn pw_file(
     sheet: &mut [u8],
@@ -25,8 +25,5 @@ pub extern "C" fn pw_file(
         pitch,
     };
     let drawn = drawing::draw_file(sheet, shape, file);
-    tell_box(drawn, told);
-    let reply = drawn.reply;
-    *value = reply.value() as u64;
-    reply.number()
+    tell_file(drawn, value, told)
 }

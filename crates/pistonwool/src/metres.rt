@@ -3,11 +3,11 @@ ghost use Rattle.survey.specs.declared.Metres.TheVariants as metres;
 ghost use Rattle.drawing.specs.Metres.{metres_drawing};
 ghost use Rattle.pistonwool.specs.Told.{shape_of, survey_of, numbered, counted, Keeps, DrawsInto};
 
-use crate::{tell_box, tell_cells};
+use crate::{tell, tell_counted};
 use sheet::Shape;
 use survey::{Metres, Survey};
 
-// Draws a line; its number of cells on the sheet goes to cells, unless it is refused.
+/// Draws a line; its number of cells on the sheet goes to cells, unless it is refused.
 #[unsafe(no_mangle)]
 pub extern "C" fn pw_line_metres(
     sheet: &mut [u8],
@@ -37,12 +37,10 @@ pub extern "C" fn pw_line_metres(
     let survey = Survey { east, north, size };
     let figure = Metres::Line(x0, y0, x1, y1);
     let drawn = drawing::draw_metres(sheet, shape, ink, survey, figure);
-    tell_box(drawn, told);
-    let reply = drawn.reply;
-    tell_cells(reply, cells)
+    tell_counted(drawn, cells, told)
 }
 
-// Draws an ellipse; a circle as in cells.
+/// Draws an ellipse; a circle as in cells.
 #[unsafe(no_mangle)]
 pub extern "C" fn pw_ellipse_metres(
     sheet: &mut [u8],
@@ -70,7 +68,5 @@ pub extern "C" fn pw_ellipse_metres(
     let survey = Survey { east, north, size };
     let figure = Metres::Ellipse(x, y, a, b);
     let drawn = drawing::draw_metres(sheet, shape, ink, survey, figure);
-    tell_box(drawn, told);
-    let reply = drawn.reply;
-    reply.number()
+    tell(drawn, told)
 }

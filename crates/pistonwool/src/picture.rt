@@ -4,10 +4,10 @@ ghost use Rattle.pbm.specs.Picture.{Writes};
 ghost use Rattle.pbm.specs.Reading.{read_drawing};
 ghost use Rattle.pistonwool.specs.Told.{shape_of, numbered, counted, Keeps};
 
-use crate::writing::tell_filled;
+use crate::{number_of, tell_bytes};
 use sheet::Shape;
 
-// Writes a sheet as a picture; the picture's byte count goes to bytes, unless it is refused.
+/// Writes a sheet as a picture; the picture's byte count goes to bytes, unless it is refused.
 #[unsafe(no_mangle)]
 pub extern "C" fn pw_write_pbm(
     sheet: &[u8],
@@ -26,11 +26,11 @@ pub extern "C" fn pw_write_pbm(
         height,
         pitch,
     };
-    let reply = pbm::write(sheet, shape, picture);
-    tell_filled(reply, bytes)
+    let written = pbm::write(sheet, shape, picture);
+    tell_bytes(written, bytes)
 }
 
-// Reads a picture onto a sheet of its size.
+/// Reads a picture onto a sheet of its size.
 #[unsafe(no_mangle)]
 pub extern "C" fn pw_read_pbm(
     sheet: &mut [u8],
@@ -47,6 +47,5 @@ pub extern "C" fn pw_read_pbm(
         height,
         pitch,
     };
-    let reply = pbm::read(sheet, shape, picture);
-    reply.number()
+    number_of(pbm::read(sheet, shape, picture))
 }

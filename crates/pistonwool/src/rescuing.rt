@@ -1,26 +1,8 @@
 // Rescuing a damaged record file.
-ghost use Rattle.std.specs.Prelude.{◌≡◌};
-ghost use Rattle.record.specs.Rescue.{lent_of, Rescues, told_rescue};
+ghost use Rattle.record.specs.Rescue.{lent_of, Rescues};
 ghost use Rattle.pistonwool.specs.Told.{two_counted, Keeps};
 
-use record::Rescue;
-
-// Tells what came of a rescue: its number, and both counts where it is done.
-fn tell_rescue(rescue: Rescue, copied: &mut u64, listed: &mut u64) -> u32
-    ensures { (told_rescue rescue ≡ two_counted result copied.new listed.new)
-        × Keeps result copied.old copied.new × Keeps result listed.old listed.new }
-{
-    match rescue {
-        Rescue::Done(bytes, places) => {
-            *copied = bytes as u64;
-            *listed = places as u64;
-            0
-        }
-        Rescue::Refused(refusal) => refusal.number(),
-    }
-}
-
-// Copies the records that read well, and lists the others.
+/// Copies the records that read well, and lists the others.
 #[unsafe(no_mangle)]
 pub extern "C" fn pw_rescue(
     file: &[u8],
@@ -34,6 +16,12 @@ pub extern "C" fn pw_rescue(
         (two_counted result copied.new listed.new) (lent_of copy.new offsets.new numbers.new) }
     ensures keeps { Keeps result copied.old copied.new × Keeps result listed.old listed.new }
 {
-    let reply = record::rescue(file, copy, offsets, numbers);
-    tell_rescue(reply, copied, listed)
+    match record::rescue(file, copy, offsets, numbers) {
+        Ok(rescued) => {
+            *copied = rescued.copied as u64;
+            *listed = rescued.listed as u64;
+            0
+        }
+        Err(refusal) => refusal.number(),
+    }
 }

@@ -11,11 +11,11 @@ ghost use Rattle.drawing.specs.Metres.{metres_drawing};
 ghost use Rattle.tally.specs.Tally.{recounted, Counts, beside, plain};
 ghost use Rattle.pistonwool.specs.Told.{shape_of, survey_of, numbered, counted, replied, Keeps, DrawsInto};
 
-use crate::{tell_box, tell_cells};
+use crate::{number_of, tell, tell_cells, tell_counted, tell_file};
 use sheet::{Cell, Figure, Shape};
 use survey::{Metres, Survey};
 
-// Counts the sheet afresh.
+/// Counts the sheet afresh.
 #[unsafe(no_mangle)]
 pub extern "C" fn pw_tally(
     sheet: &[u8],
@@ -31,11 +31,10 @@ pub extern "C" fn pw_tally(
         height,
         pitch,
     };
-    let reply = tally::count(sheet, shape, rows);
-    reply.number()
+    number_of(tally::count(sheet, shape, rows))
 }
 
-// Draws a line.
+/// Draws a line.
 #[unsafe(no_mangle)]
 pub extern "C" fn pw_line_tallied(
     sheet: &mut [u8],
@@ -65,12 +64,10 @@ pub extern "C" fn pw_line_tallied(
     let from = Cell { x: x0, y: y0 };
     let to = Cell { x: x1, y: y1 };
     let drawn = tally::draw_figure(sheet, shape, rows, ink, Figure::Line(from, to));
-    tell_box(drawn, told);
-    let reply = drawn.reply;
-    tell_cells(reply, cells)
+    tell_counted(drawn, cells, told)
 }
 
-// Draws an ellipse, or a circle.
+/// Draws an ellipse, or a circle.
 #[unsafe(no_mangle)]
 pub extern "C" fn pw_ellipse_tallied(
     sheet: &mut [u8],
@@ -97,12 +94,10 @@ pub extern "C" fn pw_ellipse_tallied(
     };
     let centre = Cell { x, y };
     let drawn = tally::draw_figure(sheet, shape, rows, ink, Figure::Ellipse(centre, a, b));
-    tell_box(drawn, told);
-    let reply = drawn.reply;
-    reply.number()
+    tell(drawn, told)
 }
 
-// Draws a quadratic curve in 2^s pieces.
+/// Draws a quadratic curve in 2^s pieces.
 #[unsafe(no_mangle)]
 pub extern "C" fn pw_curve_tallied(
     sheet: &mut [u8],
@@ -134,12 +129,10 @@ pub extern "C" fn pw_curve_tallied(
     let p1 = Cell { x: x1, y: y1 };
     let p2 = Cell { x: x2, y: y2 };
     let drawn = tally::draw_figure(sheet, shape, rows, ink, Figure::Curve(p0, p1, p2, s));
-    tell_box(drawn, told);
-    let reply = drawn.reply;
-    reply.number()
+    tell(drawn, told)
 }
 
-// Draws a cubic curve in 2^s pieces.
+/// Draws a cubic curve in 2^s pieces.
 #[unsafe(no_mangle)]
 pub extern "C" fn pw_cubic_tallied(
     sheet: &mut [u8],
@@ -174,12 +167,10 @@ pub extern "C" fn pw_cubic_tallied(
     let p2 = Cell { x: x2, y: y2 };
     let p3 = Cell { x: x3, y: y3 };
     let drawn = tally::draw_figure(sheet, shape, rows, ink, Figure::Cubic(p0, p1, p2, p3, s));
-    tell_box(drawn, told);
-    let reply = drawn.reply;
-    reply.number()
+    tell(drawn, told)
 }
 
-// Draws a file.
+/// Draws a file.
 #[unsafe(no_mangle)]
 pub extern "C" fn pw_file_tallied(
     sheet: &mut [u8],
@@ -202,13 +193,10 @@ pub extern "C" fn pw_file_tallied(
         pitch,
     };
     let drawn = tally::draw_file(sheet, shape, rows, file);
-    tell_box(drawn, told);
-    let reply = drawn.reply;
-    *value = reply.value() as u64;
-    reply.number()
+    tell_file(drawn, value, told)
 }
 
-// Draws a line in metres.
+/// Draws a line in metres.
 #[unsafe(no_mangle)]
 pub extern "C" fn pw_line_metres_tallied(
     sheet: &mut [u8],
@@ -241,12 +229,10 @@ pub extern "C" fn pw_line_metres_tallied(
     let survey = Survey { east, north, size };
     let figure = Metres::Line(x0, y0, x1, y1);
     let drawn = tally::draw_metres(sheet, shape, rows, ink, survey, figure);
-    tell_box(drawn, told);
-    let reply = drawn.reply;
-    tell_cells(reply, cells)
+    tell_counted(drawn, cells, told)
 }
 
-// Draws an ellipse in metres.
+/// Draws an ellipse in metres.
 #[unsafe(no_mangle)]
 pub extern "C" fn pw_ellipse_metres_tallied(
     sheet: &mut [u8],
@@ -277,12 +263,10 @@ pub extern "C" fn pw_ellipse_metres_tallied(
     let survey = Survey { east, north, size };
     let figure = Metres::Ellipse(x, y, a, b);
     let drawn = tally::draw_metres(sheet, shape, rows, ink, survey, figure);
-    tell_box(drawn, told);
-    let reply = drawn.reply;
-    reply.number()
+    tell(drawn, told)
 }
 
-// Fills a territory.
+/// Fills a territory.
 #[unsafe(no_mangle)]
 pub extern "C" fn pw_fill_tallied(
     sheet: &mut [u8],
@@ -309,6 +293,6 @@ pub extern "C" fn pw_fill_tallied(
         pitch,
     };
     let start = Cell { x, y };
-    let reply = tally::fill(sheet, shape, rows, start, boundary, territory, work);
-    tell_cells(reply, cells)
+    let filled = tally::fill(sheet, shape, rows, start, boundary, territory, work);
+    tell_cells(filled, cells)
 }

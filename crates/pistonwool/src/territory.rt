@@ -7,7 +7,7 @@ ghost use Rattle.pistonwool.specs.Told.{shape_of, counted, Keeps};
 use crate::tell_cells;
 use sheet::{Cell, Shape};
 
-// Fills the territory of a cell; its number of cells goes to cells, unless it is refused.
+/// Fills the territory of a cell; its number of cells goes to cells, unless it is refused.
 #[unsafe(no_mangle)]
 pub extern "C" fn pw_fill(
     sheet: &mut [u8],
@@ -32,8 +32,6 @@ pub extern "C" fn pw_fill(
         pitch,
     };
     let start = Cell { x, y };
-    tell_cells(
-        fill::fill(sheet, shape, start, boundary, territory, work),
-        cells,
-    )
+    let filled = fill::fill(sheet, shape, start, boundary, territory, work);
+    tell_cells(filled, cells)
 }

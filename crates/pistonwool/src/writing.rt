@@ -1,26 +1,13 @@
 // Writing a record file: each call appends one record to a lent buffer.
-ghost use Rattle.std.specs.Prelude.{◌≡◌};
 ghost use Rattle.sheet.specs.Sheet.{cell};
-ghost use Rattle.sheet.specs.Reply.{told, value_of, settled};
 ghost use Rattle.sheet.specs.declared.Figure.TheVariants.{Line, Circle, Ellipse, Curve, Cubic};
 ghost use Rattle.record.specs.Writing.{Writes};
 ghost use Rattle.pistonwool.specs.Told.{counted, Keeps};
 
-use sheet::{Cell, Reply};
+use crate::tell_bytes;
+use sheet::Cell;
 
-// Tells the reply of a writer: its number, and how many bytes of the buffer are filled where it is done.
-pub(crate) fn tell_filled(reply: Reply, filled: &mut u64) -> u32
-    ensures { (result ≡ (told reply).number)
-        × (filled.new ≡ settled (told reply) (value_of (told reply)) filled.old) }
-{
-    if !reply.is_done() {
-        return reply.number();
-    }
-    *filled = reply.value() as u64;
-    0
-}
-
-// Appends a line.
+/// Appends a line.
 #[unsafe(no_mangle)]
 pub extern "C" fn pw_write_line(
     buffer: &mut [u8],
@@ -37,11 +24,11 @@ pub extern "C" fn pw_write_line(
 {
     let from = Cell { x: x0, y: y0 };
     let to = Cell { x: x1, y: y1 };
-    let reply = record::write_line(buffer, *filled as usize, ink, from, to);
-    tell_filled(reply, filled)
+    let written = record::write_line(buffer, *filled as usize, ink, from, to);
+    tell_bytes(written, filled)
 }
 
-// Appends a circle.
+/// Appends a circle.
 #[unsafe(no_mangle)]
 pub extern "C" fn pw_write_circle(
     buffer: &mut [u8],
@@ -56,11 +43,11 @@ pub extern "C" fn pw_write_circle(
     ensures keeps { Keeps result filled.old filled.new }
 {
     let centre = Cell { x, y };
-    let reply = record::write_circle(buffer, *filled as usize, ink, centre, r);
-    tell_filled(reply, filled)
+    let written = record::write_circle(buffer, *filled as usize, ink, centre, r);
+    tell_bytes(written, filled)
 }
 
-// Appends an ellipse.
+/// Appends an ellipse.
 #[unsafe(no_mangle)]
 pub extern "C" fn pw_write_ellipse(
     buffer: &mut [u8],
@@ -76,11 +63,11 @@ pub extern "C" fn pw_write_ellipse(
     ensures keeps { Keeps result filled.old filled.new }
 {
     let centre = Cell { x, y };
-    let reply = record::write_ellipse(buffer, *filled as usize, ink, centre, a, b);
-    tell_filled(reply, filled)
+    let written = record::write_ellipse(buffer, *filled as usize, ink, centre, a, b);
+    tell_bytes(written, filled)
 }
 
-// Appends a quadratic curve in 2^s pieces.
+/// Appends a quadratic curve in 2^s pieces.
 #[unsafe(no_mangle)]
 pub extern "C" fn pw_write_curve(
     buffer: &mut [u8],
@@ -101,11 +88,11 @@ pub extern "C" fn pw_write_curve(
     let p0 = Cell { x: x0, y: y0 };
     let p1 = Cell { x: x1, y: y1 };
     let p2 = Cell { x: x2, y: y2 };
-    let reply = record::write_curve(buffer, *filled as usize, ink, p0, p1, p2, s);
-    tell_filled(reply, filled)
+    let written = record::write_curve(buffer, *filled as usize, ink, p0, p1, p2, s);
+    tell_bytes(written, filled)
 }
 
-// Appends a cubic curve in 2^s pieces.
+/// Appends a cubic curve in 2^s pieces.
 #[unsafe(no_mangle)]
 pub extern "C" fn pw_write_cubic(
     buffer: &mut [u8],
@@ -129,6 +116,6 @@ pub extern "C" fn pw_write_cubic(
     let p1 = Cell { x: x1, y: y1 };
     let p2 = Cell { x: x2, y: y2 };
     let p3 = Cell { x: x3, y: y3 };
-    let reply = record::write_cubic(buffer, *filled as usize, ink, p0, p1, p2, p3, s);
-    tell_filled(reply, filled)
+    let written = record::write_cubic(buffer, *filled as usize, ink, p0, p1, p2, p3, s);
+    tell_bytes(written, filled)
 }

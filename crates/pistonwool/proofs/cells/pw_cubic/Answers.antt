@@ -20,4 +20,4 @@ returns c =
     let drawing = curve_drawing k a.ink (cell a.x0 a.y0 ∷ cell a.x1 a.y1 ∷ cell a.x2 a.y2 ∷ cell a.x3 a.y3 ∷ []) a.s in
     draws_number drawing _ _ _
     (draws_as (curve_drawing k a.ink _ a.s) _ drawing _ _ (λ i. curve_drawing k a.ink (p0 i ∷ p1 i ∷ p2 i ∷ p3 i ∷ []) a.s) c.draw_cubic-drawn.ensures)
-    _ _ _ (curve_tells _ _ _ _) c.number.ensures c.tell_box.ensures
+    _ _ _ (curve_tells _ _ _ _) c.tell.ensures.number c.tell.ensures.rectangle

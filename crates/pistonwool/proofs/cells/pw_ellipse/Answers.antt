@@ -15,4 +15,4 @@ returns c =
     let drawing = ellipse_drawing k a.ink (cell a.x a.y) a.a a.b in
     draws_number drawing _ _ _
     (draws_as (ellipse_drawing k a.ink _ a.a a.b) _ drawing _ _ (λ i. ellipse_drawing k a.ink (centre i) a.a a.b) c.draw_ellipse-drawn.ensures)
-    _ _ _ (ellipse_tells _ _ _ _ _) c.number.ensures c.tell_box.ensures
+    _ _ _ (ellipse_tells _ _ _ _ _) c.tell.ensures.number c.tell.ensures.rectangle

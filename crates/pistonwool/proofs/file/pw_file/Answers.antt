@@ -4,5 +4,4 @@ use Rattle.pistonwool.proofs.file.pw_file.Goals as goal
 
 pub returns : goal.returns
 returns c =
-    draws_value _ _ _ _ _ _ _ _ _ c.draw_file-drawn.ensures c.number.ensures c.value.ensures
-    c.tell_box.ensures
+    draws_value _ _ _ _ _ _ _ _ _ c.draw_file-drawn.ensures c.tell_file.ensures.number c.tell_file.ensures.value c.tell_file.ensures.rectangle

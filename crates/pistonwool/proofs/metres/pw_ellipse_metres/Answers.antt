@@ -10,5 +10,4 @@ pub returns : goal.returns
 returns c =
     let a = c.args in
     draws_number (metres_drawing (shape_of a.width a.height a.pitch) a.ink (survey_of a.east a.north a.size) (metres.Ellipse a.x a.y a.a a.b)) _ _ _ c.draw_metres-drawn.ensures _ _ _
-    (ellipse_metres_tells (shape_of a.width a.height a.pitch) a.ink _ (survey_of a.east a.north a.size) a.x a.y a.a a.b) c.number.ensures
-    c.tell_box.ensures
+    (ellipse_metres_tells (shape_of a.width a.height a.pitch) a.ink _ (survey_of a.east a.north a.size) a.x a.y a.a a.b) c.tell.ensures.number c.tell.ensures.rectangle

@@ -25,5 +25,5 @@ returns c =
     let points = cell a.x0 a.y0 ∷ cell a.x1 a.y1 ∷ cell a.x2 a.y2 ∷ cell a.x3 a.y3 ∷ [] in
     let all_clauses = tallied_number (curve_drawing k a.ink points a.s) k _ _ _ _ _
     (draws_as (curved _) _ (curved points) _ _ (λ i. curved (p0 i ∷ p1 i ∷ p2 i ∷ p3 i ∷ [])) c.draw_figure-drawn.ensures.draws) c.draw_figure-drawn.ensures.rows_after
-    (curve_tells _ _ _ _) _ _ _ c.number.ensures c.tell_box.ensures in
+    (curve_tells _ _ _ _) _ _ _ c.tell.ensures.number c.tell.ensures.rectangle in
     record { draws_into = all_clauses.0; rows_after = all_clauses.1 }

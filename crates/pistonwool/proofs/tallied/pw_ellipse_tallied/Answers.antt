@@ -20,5 +20,5 @@ returns c =
     let ringed : Cell → Drawing = λ p. beside plain a.sheet.now a.rows.now (ellipse_drawing k a.ink p a.a a.b) in
     let all_clauses = tallied_number (ellipse_drawing k a.ink (cell a.x a.y) a.a a.b) k _ _ _ _ _
     (draws_as (ringed _) _ (ringed (cell a.x a.y)) _ _ (λ i. ringed (centre i)) c.draw_figure-drawn.ensures.draws) c.draw_figure-drawn.ensures.rows_after
-    (ellipse_tells _ _ _ _ _) _ _ _ c.number.ensures c.tell_box.ensures in
+    (ellipse_tells _ _ _ _ _) _ _ _ c.tell.ensures.number c.tell.ensures.rectangle in
     record { draws_into = all_clauses.0; rows_after = all_clauses.1 }

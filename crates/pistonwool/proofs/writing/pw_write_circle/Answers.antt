@@ -10,5 +10,5 @@ returns c =
     let f = c.ranges in
     let centre = cell_back a.x a.y f.x f.y in
     let all_clauses = writes_count _ _ _ _ _ _ _ _ _ (λ i. Circle (centre i) a.r)
-    c.write_circle-reply.ensures (write_tells _ _ _) c.tell_filled.ensures in
+    c.write_circle-written.ensures (write_tells _ _ _) (c.tell_bytes.ensures.number, c.tell_bytes.ensures.bytes) in
     record { writes = all_clauses.0; keeps = all_clauses.1 }

@@ -13,5 +13,5 @@ returns c =
     let p2 = cell_back a.x2 a.y2 f.x2 f.y2 in
     let p3 = cell_back a.x3 a.y3 f.x3 f.y3 in
     let all_clauses = writes_count _ _ _ _ _ _ _ _ _ (λ i. Cubic (p0 i) (p1 i) (p2 i) (p3 i) a.s)
-    c.write_cubic-reply.ensures (write_tells _ _ _) c.tell_filled.ensures in
+    c.write_cubic-written.ensures (write_tells _ _ _) (c.tell_bytes.ensures.number, c.tell_bytes.ensures.bytes) in
     record { writes = all_clauses.0; keeps = all_clauses.1 }

@@ -12,5 +12,5 @@ returns c =
     let p1 = cell_back a.x1 a.y1 f.x1 f.y1 in
     let p2 = cell_back a.x2 a.y2 f.x2 f.y2 in
     let all_clauses = writes_count _ _ _ _ _ _ _ _ _ (λ i. Curve (p0 i) (p1 i) (p2 i) a.s)
-    c.write_curve-reply.ensures (write_tells _ _ _) c.tell_filled.ensures in
+    c.write_curve-written.ensures (write_tells _ _ _) (c.tell_bytes.ensures.number, c.tell_bytes.ensures.bytes) in
     record { writes = all_clauses.0; keeps = all_clauses.1 }

@@ -11,5 +11,5 @@ returns c =
     let from = cell_back a.x0 a.y0 f.x0 f.y0 in
     let to = cell_back a.x1 a.y1 f.x1 f.y1 in
     let all_clauses = writes_count _ _ _ _ _ _ _ _ _ (λ i. Line (from i) (to i))
-    c.write_line-reply.ensures (write_tells _ _ _) c.tell_filled.ensures in
+    c.write_line-written.ensures (write_tells _ _ _) (c.tell_bytes.ensures.number, c.tell_bytes.ensures.bytes) in
     record { writes = all_clauses.0; keeps = all_clauses.1 }
