@@ -31,11 +31,16 @@ def crates():
 
 @dataclasses.dataclass
 class Function:
-    name: str  # crate::name or crate::Type::name
+    name: str  # crate::name, crate::Type::name or crate::<Type as Trait>::name
     public: bool
     file: str  # src/FILE.rt
     lines: range
     body: str
+
+
+def folder_of(name):
+    """where the proof files of a function stand below its module: `Type/name`, and `TypeTrait/name` where it is a trait's"""
+    return re.sub(r"^<(\w+) as (\w+)>", r"\1\2", name).replace("::", "/")
 
 
 def bare(name):
@@ -45,13 +50,13 @@ def bare(name):
 
 @functools.cache
 def functions(crate):
-    """the functions of a crate, each by its name, with its type where it has one"""
+    """the functions of a crate, each by its name, with its type and its trait where it has them"""
     found = {}
     for source in sorted((ROOT / "crates" / crate / "src").rglob("*.rt")):
         lines, kind = source.read_text().splitlines(), ""
         for number, line in enumerate(lines):
-            if block := re.match(r"impl (\w+) \{", line):
-                kind = block[1] + "::"
+            if block := re.match(r"impl(?:<.*?>)? (?:(?:\w+::)*(\w+)(?:<.*>)? for )?(\w+)(?:<.*>)? \{", line):
+                kind = f"<{block[2]} as {block[1]}>::" if block[1] else f"{block[2]}::"
             elif line == "}":
                 kind = ""
             elif head := re.match(r'(\s*)(pub )?(?:pub\(crate\) |extern "C" )?fn (\w+)', line):
@@ -59,8 +64,9 @@ def functions(crate):
                 where = str(source.relative_to(ROOT / "crates" / crate))
                 body = "\n".join(lines[number + 1:last])
                 name = kind + head[3]
-                first = number - lines[number - 1].startswith("#[")
-                found[name] = Function(f"{crate}::{name}", bool(head[2]), where, range(first + 1, last + 2), body)
+                first = number - lines[number - 1].lstrip().startswith("#[")
+                public = bool(head[2]) or kind.startswith("<")
+                found[name] = Function(f"{crate}::{name}", public, where, range(first + 1, last + 2), body)
     return found
 
 
@@ -155,7 +161,7 @@ def fact(crate, place, number, told):
         at = [name for name, f in functions(crate).items() if f.file == f"{place}.rt" and number in f.lines]
     elif file in ("Answers", "Invariants", "Proof") and folder != "proofs":
         *_, kind, name = folder.split("/")
-        at = [f for f in (f"{kind}::{name}", name) if f in functions(crate)]
+        at = [f for f in functions(crate) if folder_of(f) in (f"{kind}/{name}", name)]
     else:
         return goal and Fact("", place, goal[1])
     return Fact(at[0], "", goal[1]) if at and goal else None
