@@ -2,20 +2,24 @@
 use Prim.Native.Nat.{ℕ}
 use mathlib.Core.Path.{◌≡◌, refl, sym, ap, ◌∙◌}
 use mathlib.Core.List.{List, [], ◌∷◌}
-use mathlib.Core.Bool.{Bool, true, false}
+use mathlib.Core.Bool.{Bool, true, false, true≢false}
 use lib.IntN.{pos}
 use lib.ListN.{length, get_or}
+use Rattle.std.specs.Prelude.{Result, Ok, Err}
 use Rattle.laws.proofs.Tests.{is_false, is_true}
 use Rattle.sheet.specs.Sheet.{place, cell_of}
 use Rattle.sheet.specs.Repaint.{nothing, box_of}
-use Rattle.sheet.specs.Reply.{Answer, done, is_done, settled}
+use Rattle.sheet.specs.Reply.{Answer, done, refuse, told, is_done, settled}
 use Rattle.sheet.specs.declared.Cell.{Cell}
 use Rattle.sheet.specs.declared.Shape.{Shape}
+use Rattle.sheet.specs.declared.refusal.Refusal.{Refusal}
 use Rattle.sheet.specs.declared.repaint.Rectangle.{Rectangle}
 use Rattle.sheet.proofs.Count.{cells_none}
 use Rattle.sheet.proofs.Draws.{draws_one}
 use Rattle.sheet.proofs.Paint.{paint_none}
-use Rattle.fill.specs.Fill.{fill_drawing, Fills, FillsRows}
+use Rattle.sheet.proofs.Unique.{number_not_0, number_one, count_one}
+use Rattle.fill.specs.Fill.{fill_drawing, Fills, FillsRows, filled_answer, first_row, past_row}
+use Rattle.fill.specs.declared.Filled.{Filled}
 use Rattle.fill.proofs.Reaching.{reach_start, tests_same}
 use Rattle.fill.proofs.Outcome.{finished, turns_not, told_by}
 
@@ -57,3 +61,21 @@ rows_same {k} {r = r} {r'} F G =
         let t = tests_same (F.fills.decides e) (G.fills.decides z) (λ d h. h) (λ d h. h) in
         simp (e, z) (ap (box_of k) t)
     by false e q = let z = sym (ap is_done q) ∙ e in simp (e, z)
+
+-- Two replies with the rows are equal, where they tell the same and have the same rows;
+told_apart : (f : Filled) (q : Refusal) → filled_answer f ≡ refuse q → ⊥
+told_apart f q e = true≢false (ap is_done e ∙ number_not_0 q)
+
+pub filled_one : (r q : Result Filled Refusal) → told filled_answer r ≡ told filled_answer q → first_row r ≡ first_row q → past_row r ≡ past_row q → r ≡ q
+filled_one (Ok f) (Ok g) e t b =
+    let cells = count_one f.cells g.cells e in
+    λ i. Ok (record { cells = cells i; top = t i; bottom = b i })
+filled_one (Ok f) (Err q) e t b = absurd (told_apart f q e)
+filled_one (Err r) (Ok g) e t b = absurd (told_apart g r (sym e))
+filled_one (Err r) (Err q) e t b = ap Err (number_one r q (ap (λ (a : Answer). a.number) e))
+
+-- and so are two that meet the statement.
+pub filled_same : {k : Shape} {a : Cell} {b i p : ℕ} {lent : List ℕ} {r q : Result Filled Refusal} {s s' : List ℕ}
+    → FillsRows k a b i p lent (told filled_answer r) (first_row r) (past_row r) s
+    → FillsRows k a b i p lent (told filled_answer q) (first_row q) (past_row q) s' → r ≡ q
+filled_same {r = r} {q} F G = let rows = rows_same F G in filled_one r q (fills_same F.fills G.fills).0 rows.0 rows.1
