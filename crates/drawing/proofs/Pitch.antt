@@ -6,7 +6,7 @@ use mathlib.Core.Bool.{◌&&◌}
 use lib.IntN.{pos}
 use Rattle.std.specs.Prelude.{Result, Ok, Err}
 use Rattle.sheet.specs.Sheet.{within_limits}
-use Rattle.sheet.specs.Reply.{done, refuse, unless}
+use Rattle.sheet.specs.Reply.{done, unless}
 use Rattle.sheet.specs.Drawing.{only}
 use Rattle.sheet.specs.Pitch.{with_pitch, AnyPitch}
 use Rattle.sheet.specs.declared.Shape.{Shape}
@@ -45,7 +45,7 @@ figure_any_pitch ink (Cubic p0 p1 p2 p3 s) = any_sheet _ _
 -- a figure in metres
 cells_any_pitch : (ink : ℕ) (i : Result Figure Refusal) → AnyPitch (λ (k : Shape). cells_drawing k ink i)
 cells_any_pitch ink (Ok f) = figure_any_pitch ink f
-cells_any_pitch ink (Err r) = any_sheet (refuse r) []
+cells_any_pitch ink (Err r) = any_sheet _ _
 
 pub metres_any_pitch : (ink : ℕ) (s : Survey) (f : Metres) → AnyPitch (λ (k : Shape). metres_drawing k ink s f)
 metres_any_pitch ink s f = cells_any_pitch ink (in_cells s f)

@@ -32,7 +32,9 @@ pub overflow_sub-more : goal.overflow_sub-more
 overflow_sub-more c = (run c).on
 
 pub slice_bounds-copy_from_slice-end : goal.slice_bounds-copy_from_slice-end
-slice_bounds-copy_from_slice-end c = fits c
+slice_bounds-copy_from_slice-end c =
+    let k = run c in
+    omega (arith, fits c, k.on, k.inside, put_length c.loop-at.invariant.copy, c.requires.copy)
 
 pub slice_bounds-copy_from_slice-count-in-loop-at : goal.slice_bounds-copy_from_slice-count-in-loop-at
 slice_bounds-copy_from_slice-count-in-loop-at c = (run (goal.at.slice_bounds-copy_from_slice-count-in-loop-at c).After-sound_run-run).on
