@@ -11,8 +11,8 @@ use mathlib.Core.List.{List, [], ◌∷◌}
 use mathlib.Core.Bool.{Bool, true, false, not, true≢false}
 use native.Mathlib.Omega.{arith}
 use native.Mathlib.Decide.{ℕ_discrete}
-use borrow.Author.Tests.{eqb-true}
-use lib.Dec.{T, eqb}
+use borrow.Author.Tests.{eqb-true, leb-true}
+use lib.Dec.{T, eqb, leb}
 use lib.ListN.{length, get_or, set, length-set}
 use lib.Seq.{sets, get_or-set_same, get_or-set_other}
 use Rattle.laws.specs.Below.{any, each}
@@ -84,6 +84,14 @@ halved_all = refl
 pub halved_is : (b : ℕ) → b < 256 → spread 8 (b / 2) / 256 + b % 2 * 72057594037927936 ≡ spread 8 b
 unfolding halved
 halved_is b l = eqb-true _ _ (holds_below 256 halved halved_all b l)
+
+small_all : any 256 (λ (b : ℕ). not (leb (spread 8 b) 72340172838076673)) ≡ false
+unfolding spread any
+small_all = refl
+
+-- and the cells of a byte are eight flags
+pub spread_small : (b : ℕ) → b < 256 → spread 8 b ≤ 72340172838076673
+spread_small b l = leb-true _ _ (holds_below 256 (λ (b : ℕ). leb (spread 8 b) 72340172838076673) small_all b l)
 
 spelt : ℕ → ℕ → Bool
 spelt i b = eqb (byte_of (spread 8 b) i) (bit_at b i)
