@@ -101,6 +101,7 @@ fn split_at(payload: &[u8], at: usize, place: usize) -> Result<u32, FileRefusal>
 }
 
 /// Kind 1: ink, x0, y0, x1, y1.
+#[inline(always)]
 fn line(payload: &[u8], at: usize) -> Result<Figure, FileRefusal>
     requires { Counts at payload.now }
     ensures { result ≡ line_read payload.now at }
@@ -117,6 +118,7 @@ fn line(payload: &[u8], at: usize) -> Result<Figure, FileRefusal>
 }
 
 /// Kind 2: ink, centre x, centre y, r.
+#[inline(always)]
 fn circle(payload: &[u8], at: usize) -> Result<Figure, FileRefusal>
     requires { Counts at payload.now }
     ensures { result ≡ circle_read payload.now at }
@@ -133,6 +135,7 @@ fn circle(payload: &[u8], at: usize) -> Result<Figure, FileRefusal>
 }
 
 /// Kind 3: ink, centre x, centre y, a, b.
+#[inline(always)]
 fn ellipse(payload: &[u8], at: usize) -> Result<Figure, FileRefusal>
     requires { Counts at payload.now }
     ensures { result ≡ ellipse_read payload.now at }
@@ -150,6 +153,7 @@ fn ellipse(payload: &[u8], at: usize) -> Result<Figure, FileRefusal>
 }
 
 /// Kind 4: ink, P0, P1, P2 (each x then y), s.
+#[inline(always)]
 fn curve(payload: &[u8], at: usize) -> Result<Figure, FileRefusal>
     requires { Counts at payload.now }
     ensures { result ≡ curve_read payload.now at }
@@ -166,6 +170,7 @@ fn curve(payload: &[u8], at: usize) -> Result<Figure, FileRefusal>
 }
 
 /// Kind 5: ink, P0, P1, P2, P3, s.
+#[inline(always)]
 fn cubic(payload: &[u8], at: usize) -> Result<Figure, FileRefusal>
     requires { Counts at payload.now }
     ensures { result ≡ cubic_read payload.now at }
@@ -184,6 +189,7 @@ fn cubic(payload: &[u8], at: usize) -> Result<Figure, FileRefusal>
 
 /// The figure of a payload of any kind, by its decoder. A kind is its number in the file, here and where its writer puts it: an enum of
 /// kinds would be a second table of the same numbers.
+#[inline(always)]
 fn decode(kind: u16, payload: &[u8], at: usize) -> Result<Figure, FileRefusal>
     requires { Counts at payload.now }
     ensures reads { (next : ℕ) → read_decoded at next payload.now result ≡ read_of (kind_found kind payload.now at next) }
@@ -202,7 +208,9 @@ fn decode(kind: u16, payload: &[u8], at: usize) -> Result<Figure, FileRefusal>
     }
 }
 
-/// What stands at an offset of the file.
+/// What stands at an offset of the file. Inlined with its decoders, so that a loop that asks only where the next record begins builds no
+/// figure.
+#[inline(always)]
 pub fn read(file: &[u8], at: usize) -> Read
     ensures result_value { told_read result ≡ read_answer file.now at }
     ensures value { result ≡ read_at file.now at }
